@@ -1,0 +1,118 @@
+// Document 01's examples 1 to 3, run: what the functions of `path` answer, in the document's words.
+ghost use Rattle.path.specs.View.{PathSound};
+use libc::STDOUT_FILENO;
+use path::Path;
+
+fn main() {
+    example1();
+    example2();
+    example3();
+}
+
+fn example1() {
+    let q = at(2, [1, 2, 0, 0, 0, 0]);
+    text(b"1. Add at ");
+    address(q);
+    text(b": ");
+    added(at(2, [1, 2, 0, 0, 0, 0]), q);
+    text(b"; ");
+    added(at(3, [1, 2, 4, 0, 0, 0]), q);
+    text(b"; ");
+    added(at(2, [1, 10, 0, 0, 0, 0]), q);
+    text(b".\n");
+}
+
+fn example2() {
+    let q = at(2, [1, 2, 0, 0, 0, 0]);
+    text(b"2. Same: ");
+    address(path::path_up(at(1, [1, 0, 0, 0, 0, 0]), q));
+    text(b", ");
+    address(path::path_up(at(2, [1, 1, 0, 0, 0, 0]), q));
+    text(b" and ");
+    address(path::path_up(at(2, [2, 2, 0, 0, 0, 0]), q));
+    text(b" stay.\n");
+}
+
+fn example3() {
+    let q = at(2, [1, 2, 0, 0, 0, 0]);
+    text(b"3. Delete at ");
+    address(q);
+    text(b": ");
+    deleted(at(3, [1, 3, 1, 0, 0, 0]), q);
+    text(b"; ");
+    deleted(at(3, [1, 2, 5, 0, 0, 0]), q);
+    text(b"; ");
+    deleted(at(2, [1, 1, 0, 0, 0, 0]), q);
+    text(b".\n");
+}
+
+// ---- what becomes of a path
+
+fn added(p: Path, q: Path)
+    requires { ⌜ PathSound p × PathSound q ⌝ }
+{
+    told(p, path::path_up(p, q));
+}
+
+fn deleted(p: Path, q: Path)
+    requires { ⌜ PathSound p × PathSound q ⌝ }
+{
+    let m = path::path_down(p, q);
+    if !m.there {
+        address(p);
+        text(b" goes");
+        return;
+    }
+    told(p, m.path);
+}
+
+// Writes that p stays, or the path that it becomes.
+fn told(p: Path, r: Path) {
+    address(p);
+    if path::key(p) == path::key(r) {
+        text(b" stays");
+        return;
+    }
+    text(b" becomes ");
+    address(r);
+}
+
+// ---- paths in and out
+
+// A host's bytes as a path; bytes that are none give the root's.
+fn at(len: u8, steps: [u8; 6]) -> Path
+    ensures { λ r. ⌜ PathSound r ⌝ }
+{
+    let p = Path {
+        len: len,
+        steps: steps,
+    };
+    if !path::is_valid(p) {
+        return path::root();
+    }
+    path::canonical(p)
+}
+
+// Writes the steps with a dot between them.
+fn address(p: Path) {
+    let n = p.len as usize;
+    let mut i: usize = 0;
+    while i < 6 {
+        if n <= i {
+            return;
+        }
+        step(i, p.steps[i]);
+        i += 1;
+    }
+}
+
+fn step(i: usize, s: u8) {
+    if 0 < i {
+        text(b".");
+    }
+    io::print_decimal(STDOUT_FILENO, s as u64);
+}
+
+fn text(s: &[u8]) {
+    io::write_all(STDOUT_FILENO, s);
+}

@@ -1,0 +1,3 @@
+pub mod Sorted
+pub mod Order
+pub mod Fill

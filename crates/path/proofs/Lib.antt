@@ -1,0 +1,4 @@
+pub mod Moves
+pub mod Laws
+pub mod Structs
+pub mod Number

@@ -1,0 +1,157 @@
+-- The order of paths as the order of one number, in digits below 64. Assumes nothing.
+use mathlib.Core.Path.{_≡_, refl, sym, ap, ap₂, _∙_}
+use mathlib.Core.Bool.{Bool, true, false}
+use mathlib.Core.List.{List, [], _∷_, _++_}
+use Prim.Native.Nat.{ℕ, suc, _+_, _*_, _-_, _<_}
+use native.Mathlib.Omega.{arith}
+use lib.Dec.{eqb, ltb}
+use lib.ListN.{length, getD, replicate}
+use borrow.Author.Tests.{eq-eqb, eqb-true, le-ltb, lt-ltb, ltb-true, ltb-false}
+use Rattle.laws.specs.Slots.{slots}
+use Rattle.laws.specs.Order.{lex, ltList}
+use Rattle.laws.proofs.Order.{ℕ-order, list-order, pair-order}
+use Rattle.path.specs.Address.{Address, same, before}
+use Rattle.path.specs.declared.Path.{Path}
+use Rattle.path.specs.View.{steps, pathOf, PathSound, number}
+use Rattle.path.proofs.Structs.{no, pick-true, facts}
+
+data Tri (k j : ℕ) : Type 0 where
+  less : k < j → Tri k j
+  equal : k ≡ j → Tri k j
+  more : j < k → Tri k j
+
+tri : (k j : ℕ) → Tri k j
+tri k j = go (ltb k j) refl (ltb j k) refl
+  where
+    go : (b : Bool) → ltb k j ≡ b → (c : Bool) → ltb j k ≡ c → Tri k j
+    go true e c f = less (ltb-true k j e)
+    go false e true f = more (ltb-true j k f)
+    go false e false f = let x = ltb-false k j e in let y = ltb-false j k f in equal (omega arith)
+
+-- ---- numbers compared part by part
+abbrev lexed : ℕ → ℕ → Bool → Bool
+lexed k j t = lex (ltb k j) (ltb j k) t
+
+lex-less : (k j : ℕ) (t : Bool) → k < j → lexed k j t ≡ true
+lex-less k j t h = rw (lt-ltb k j h)
+
+lex-more : (k j : ℕ) (t : Bool) → j < k → lexed k j t ≡ false
+lex-more k j t h = rw (le-ltb k j (omega arith), lt-ltb j k h)
+
+lex-equal : (k j : ℕ) (t : Bool) → k ≡ j → lexed k j t ≡ t
+lex-equal k j t e = rw (le-ltb k j (omega arith), le-ltb j k (omega arith))
+
+step-lex : (k j x y : ℕ) (t : Bool) → x < 64 → y < 64 → lexed (k * 64 + x) (j * 64 + y) t ≡ lexed k j (lexed x y t)
+step-lex k j x y t h g = go (tri k j) (tri x y)
+  where
+    go : Tri k j → Tri x y → lexed (k * 64 + x) (j * 64 + y) t ≡ lexed k j (lexed x y t)
+    go (less a) b = lex-less (k * 64 + x) (j * 64 + y) t (omega arith) ∙ sym (lex-less k j (lexed x y t) a)
+    go (more a) b = lex-more (k * 64 + x) (j * 64 + y) t (omega arith) ∙ sym (lex-more k j (lexed x y t) a)
+    go (equal a) (less b) = lex-less (k * 64 + x) (j * 64 + y) t (omega arith) ∙ sym (lex-equal k j (lexed x y t) a ∙ lex-less x y t b)
+    go (equal a) (equal b) = lex-equal (k * 64 + x) (j * 64 + y) t (omega arith) ∙ sym (lex-equal k j (lexed x y t) a ∙ lex-equal x y t b)
+    go (equal a) (more b) = lex-more (k * 64 + x) (j * 64 + y) t (omega arith) ∙ sym (lex-equal k j (lexed x y t) a ∙ lex-more x y t b)
+
+lex-end : (k j : ℕ) → ltb k j ≡ lexed k j false
+lex-end k j = go (ltb k j) (ltb j k)
+  where
+    go : (b c : Bool) → b ≡ lex b c false
+    go true c = refl
+    go false true = refl
+    go false false = refl
+
+pub number-lt : (l m : List ℕ) → length l ≡ length m → ((i : ℕ) → getD l i 0 < 64) → ((i : ℕ) → getD m i 0 < 64) → (k j : ℕ)
+    → ltb (number k l) (number j m) ≡ lexed k j (ltList ltb l m)
+number-lt [] [] e h g k j = lex-end k j
+number-lt [] (y ∷ m) e h g k j = absurd (omega arith)
+number-lt (x ∷ l) [] e h g k j = absurd (omega arith)
+number-lt (x ∷ l) (y ∷ m) e h g k j =
+    number-lt l m (omega arith) (λ i. h (suc i)) (λ i. g (suc i)) (k * 64 + x) (j * 64 + y) ∙ step-lex k j x y (ltList ltb l m) (h 0) (g 0)
+
+-- ---- the number of an array of six, written out
+six : (k : ℕ) (l : List ℕ) → length l ≡ 6
+    → (((((k * 64 + getD l 0 0) * 64 + getD l 1 0) * 64 + getD l 2 0) * 64 + getD l 3 0) * 64 + getD l 4 0) * 64 + getD l 5 0 ≡ number k l
+six k (a ∷ b ∷ c ∷ d ∷ e ∷ f ∷ []) h = refl
+six k [] h = absurd (omega arith)
+six k (a ∷ []) h = absurd (omega arith)
+six k (a ∷ b ∷ []) h = absurd (omega arith)
+six k (a ∷ b ∷ c ∷ []) h = absurd (omega arith)
+six k (a ∷ b ∷ c ∷ d ∷ []) h = absurd (omega arith)
+six k (a ∷ b ∷ c ∷ d ∷ e ∷ []) h = absurd (omega arith)
+six k (a ∷ b ∷ c ∷ d ∷ e ∷ f ∷ g ∷ l) h = absurd (omega arith)
+
+pub six-of : {r0 r1 r2 r3 r4 r5 r6 : ℕ} (k : ℕ) (l : List ℕ) → length l ≡ 6
+    → r0 ≡ k → r1 ≡ getD l 0 0 → r2 ≡ getD l 1 0 → r3 ≡ getD l 2 0 → r4 ≡ getD l 3 0 → r5 ≡ getD l 4 0 → r6 ≡ getD l 5 0
+    → (((((r0 * 64 + r1) * 64 + r2) * 64 + r3) * 64 + r4) * 64 + r5) * 64 + r6 ≡ number k l
+six-of {r0} {r1} {r2} {r3} {r4} {r5} {r6} k l h e0 e1 e2 e3 e4 e5 e6 =
+    let e : (((((r0 * 64 + r1) * 64 + r2) * 64 + r3) * 64 + r4) * 64 + r5) * 64 + r6
+    ≡ (((((k * 64 + getD l 0 0) * 64 + getD l 1 0) * 64 + getD l 2 0) * 64 + getD l 3 0) * 64 + getD l 4 0) * 64 + getD l 5 0 =
+    λ i. (((((e0 i * 64 + e1 i) * 64 + e2 i) * 64 + e3 i) * 64 + e4 i) * 64 + e5 i) * 64 + e6 i in
+    e ∙ six k l h
+
+-- ---- padding does not alter the order of lists of one length
+list-self : (z : List ℕ) → ltList ltb z z ≡ false
+list-self [] = refl
+list-self (x ∷ z) = lex-equal x x (ltList ltb z z) refl ∙ list-self z
+
+pad-list : (p q z : List ℕ) → length p ≡ length q → ltList ltb (p ++ z) (q ++ z) ≡ ltList ltb p q
+pad-list [] [] z e = list-self z
+pad-list [] (y ∷ q) z e = absurd (omega arith)
+pad-list (x ∷ p) [] z e = absurd (omega arith)
+pad-list (x ∷ p) (y ∷ q) z e = ap (λ t. lexed x y t) (pad-list p q z (omega arith))
+
+pad-before : (l m : Address) → lexed (length l) (length m) (ltList ltb (slots 6 0 l) (slots 6 0 m)) ≡ before l m
+pad-before l m = go (tri (length l) (length m))
+  where
+    go : Tri (length l) (length m) → lexed (length l) (length m) (ltList ltb (slots 6 0 l) (slots 6 0 m)) ≡ before l m
+    go (less a) = lex-less (length l) (length m) _ a ∙ sym (lex-less (length l) (length m) _ a)
+    go (more a) = lex-more (length l) (length m) _ a ∙ sym (lex-more (length l) (length m) _ a)
+    go (equal a) = ap (λ t. lexed (length l) (length m) t) (ap (λ k. ltList ltb (slots 6 0 l) (m ++ replicate (6 - k) 0)) (sym a) ∙ pad-list l m (replicate (6 - length l) 0) a)
+
+-- ---- the same address
+same-self : (l : Address) → same l l ≡ true
+same-self [] = refl
+same-self (x ∷ l) = rw (eq-eqb x x refl) (same-self l)
+
+same-eq : (l m : Address) → same l m ≡ true → l ≡ m
+same-eq [] [] e = refl
+same-eq [] (y ∷ m) e = no (sym e)
+same-eq (x ∷ l) [] e = no (sym e)
+same-eq (x ∷ l) (y ∷ m) e =
+    let h = pick-true (eqb x y) (same l m) e in ap₂ (λ (c : ℕ) (r : List ℕ). c ∷ r) (eqb-true x y (h .0)) (same-eq l m (h .1))
+
+neither : (l m : Address) → before l m ≡ false → before m l ≡ false → l ≡ m
+neither l m e f =
+    ap (λ w. w .1) (pair-order ltb (ltList ltb) ℕ-order (list-order ltb ℕ-order) .conn (length l, l) (length m, m) (rw e tt) (rw f tt))
+
+both-ways : (b c : Bool) → (b ≡ true → c ≡ true) → (c ≡ true → b ≡ true) → b ≡ c
+both-ways true c f g = sym (f refl)
+both-ways false true f g = g refl
+both-ways false false f g = refl
+
+-- ---- paths that stand for an address
+pub key-before : (p q : Path) → PathSound p → PathSound q → ltb (number (p .len) (p .steps)) (number (q .len) (q .steps)) ≡ before (steps p) (steps q)
+key-before p q hp hq =
+    let fp = facts p hp in
+    let fq = facts q hq in
+    let sp = fp .full in
+    let sq = fq .full in
+    number-lt (p .steps) (q .steps) (omega arith) (λ i. let s = fp .small i in omega arith) (λ i. let s = fq .small i in omega arith) (p .len) (q .len)
+    ∙ ap₂ (λ k j. lexed k j (ltList ltb (p .steps) (q .steps))) (sym (fp .size)) (sym (fq .size))
+    ∙ ap₂ (λ l m. lexed (length (steps p)) (length (steps q)) (ltList ltb l m)) (fp .array) (fq .array)
+    ∙ pad-before (steps p) (steps q)
+
+pub key-same : (p q : Path) → PathSound p → PathSound q → eqb (number (p .len) (p .steps)) (number (q .len) (q .steps)) ≡ same (steps p) (steps q)
+key-same p q hp hq = both-ways (eqb (number (p .len) (p .steps)) (number (q .len) (q .steps))) (same (steps p) (steps q)) to from
+  where
+    to : eqb (number (p .len) (p .steps)) (number (q .len) (q .steps)) ≡ true → same (steps p) (steps q) ≡ true
+    to e =
+        let n = number (p .len) (p .steps) in
+        let m = number (q .len) (q .steps) in
+        let k = eqb-true n m e in
+        let s = neither (steps p) (steps q) (sym (key-before p q hp hq) ∙ le-ltb n m (omega arith)) (sym (key-before q p hq hp) ∙ le-ltb m n (omega arith)) in
+        ap (same (steps p)) (sym s) ∙ same-self (steps p)
+
+    from : same (steps p) (steps q) ≡ true → eqb (number (p .len) (p .steps)) (number (q .len) (q .steps)) ≡ true
+    from e =
+        let s = facts p hp .is ∙ ap pathOf (same-eq (steps p) (steps q) e) ∙ sym (facts q hq .is) in
+        eq-eqb (number (p .len) (p .steps)) (number (q .len) (q .steps)) (ap (λ (x : Path). number (x .len) (x .steps)) s)
