@@ -1,0 +1,9 @@
+pub mod Things
+pub mod Decide
+pub mod Moves
+pub mod Refusals
+pub mod Image
+pub mod Run
+pub mod Sound
+pub mod Starred
+pub mod Examples
