@@ -2,10 +2,12 @@
 use mathlib.Core.Path.{_≡_, refl, sym, ap, ap₂, _∙_}
 use mathlib.Core.Bool.{Bool, true, false}
 use mathlib.Core.List.{List, [], _∷_, _++_}
-use Prim.Native.Nat.{ℕ, suc, _+_, _*_, _-_, _<_}
+use Prim.Native.Nat.{ℕ, suc, _+_, _*_, _-_, _≤_, _<_}
 use native.Mathlib.Omega.{arith}
 use lib.Dec.{eqb, ltb}
-use lib.ListN.{length, getD, replicate}
+use lib.ListN.{length, drop, getD, replicate, drop-of-length-le}
+use lib.Seq.{drop-cons}
+use native.Mathlib.Numerals.{add-one}
 use borrow.Author.Tests.{eq-eqb, eqb-true, le-ltb, lt-ltb, ltb-true, ltb-false}
 use Rattle.laws.specs.Slots.{slots}
 use Rattle.laws.specs.Order.{lex, ltList}
@@ -67,26 +69,12 @@ number-lt (x ∷ l) [] e h g k j = absurd (omega arith)
 number-lt (x ∷ l) (y ∷ m) e h g k j =
     number-lt l m (omega arith) (λ i. h (suc i)) (λ i. g (suc i)) (k * 64 + x) (j * 64 + y) ∙ step-lex k j x y (ltList ltb l m) (h 0) (g 0)
 
--- ---- the number of an array of six, written out
-six : (k : ℕ) (l : List ℕ) → length l ≡ 6
-    → (((((k * 64 + getD l 0 0) * 64 + getD l 1 0) * 64 + getD l 2 0) * 64 + getD l 3 0) * 64 + getD l 4 0) * 64 + getD l 5 0 ≡ number k l
-six k (a ∷ b ∷ c ∷ d ∷ e ∷ f ∷ []) h = refl
-six k [] h = absurd (omega arith)
-six k (a ∷ []) h = absurd (omega arith)
-six k (a ∷ b ∷ []) h = absurd (omega arith)
-six k (a ∷ b ∷ c ∷ []) h = absurd (omega arith)
-six k (a ∷ b ∷ c ∷ d ∷ []) h = absurd (omega arith)
-six k (a ∷ b ∷ c ∷ d ∷ e ∷ []) h = absurd (omega arith)
-six k (a ∷ b ∷ c ∷ d ∷ e ∷ f ∷ g ∷ l) h = absurd (omega arith)
+-- a turn of the loop that reads the digits, and its end
+pub digit-next : (k i : ℕ) (l : List ℕ) → i < length l → number (k * 64 + getD l i 0) (drop (i + 1) l) ≡ number k (drop i l)
+digit-next k i l h = rw (add-one, drop-cons l i 0)
 
-pub six-of : {r0 r1 r2 r3 r4 r5 r6 : ℕ} (k : ℕ) (l : List ℕ) → length l ≡ 6
-    → r0 ≡ k → r1 ≡ getD l 0 0 → r2 ≡ getD l 1 0 → r3 ≡ getD l 2 0 → r4 ≡ getD l 3 0 → r5 ≡ getD l 4 0 → r6 ≡ getD l 5 0
-    → (((((r0 * 64 + r1) * 64 + r2) * 64 + r3) * 64 + r4) * 64 + r5) * 64 + r6 ≡ number k l
-six-of {r0} {r1} {r2} {r3} {r4} {r5} {r6} k l h e0 e1 e2 e3 e4 e5 e6 =
-    let e : (((((r0 * 64 + r1) * 64 + r2) * 64 + r3) * 64 + r4) * 64 + r5) * 64 + r6
-    ≡ (((((k * 64 + getD l 0 0) * 64 + getD l 1 0) * 64 + getD l 2 0) * 64 + getD l 3 0) * 64 + getD l 4 0) * 64 + getD l 5 0 =
-    λ i. (((((e0 i * 64 + e1 i) * 64 + e2 i) * 64 + e3 i) * 64 + e4 i) * 64 + e5 i) * 64 + e6 i in
-    e ∙ six k l h
+pub digits-end : (k i : ℕ) (l : List ℕ) → length l ≤ i → number k (drop i l) ≡ k
+digits-end k i l h = ap (number k) (drop-of-length-le l {i = i} h)
 
 -- ---- padding does not alter the order of lists of one length
 list-self : (z : List ℕ) → ltList ltb z z ≡ false

@@ -75,8 +75,13 @@ pub fn key(p: Path) -> u64
     ensures { λ r. ⌜ r ≡ number (p .len) (p .steps) ⌝ }
 {
     let s = p.steps;
-    let top = ((wide(p.len) * 64 + wide(s[0])) * 64 + wide(s[1])) * 64 + wide(s[2]);
-    ((top * 64 + wide(s[3])) * 64 + wide(s[4])) * 64 + wide(s[5])
+    let mut k = wide(p.len);
+    let mut i: usize = 0;
+    while i < 6 {
+        k = k * 64 + wide(s[i]);
+        i += 1;
+    }
+    k
 }
 
 fn wide(x: u8) -> u64

@@ -1,125 +1,92 @@
--- `path::key` meets its contract: seven digits, each what `wide` ensures. Assumes nothing.
+-- `path::key` meets its contract: after each turn the digits read and those left make the whole number. Assumes nothing.
 use borrow.Author.Needs.{needs}
-use mathlib.Core.Path.{_≡_}
-use lib.ListN.{length}
-use Rattle.path.proofs.Number.{six-of}
+use mathlib.Core.Path.{_≡_, refl, sym, ap, _∙_}
+use Prim.Native.Nat.{ℕ, _+_, _*_, _-_, _^_, _≤_, _<_}
+use native.Mathlib.Nat.{pow-suc, pow-le-pow-right}
+use native.Mathlib.Numerals.{add-one}
+use native.Mathlib.Omega.{arith}
+use lib.ListN.{length, drop}
+use Rattle.path.specs.View.{number}
+use Rattle.path.proofs.Number.{digit-next, digits-end}
 use Rattle.path.proofs.key.Statement.{statement}
 use Rattle.path.proofs.key.Tie as tie
 
-wide-requires : tie.Need-wide-requires
+abbrev Inv-loop : tie.InvT-loop
+Inv-loop s k₀ i₀ k i = (i ≤ 6) × (number k (drop i s) ≡ number k₀ s) × (k < 256 * 128 ^ i)
+
+abbrev μ-loop : tie.MeasureT-loop
+μ-loop s k₀ i₀ k i = 6 - i
+
+-- while a step is left, the number is far below what 64 bits hold
+small : (i : ℕ) → i < 6 → 128 ^ i ≤ 34359738368
+small i h = pow-le-pow-right {n = 128} (omega arith) {i = i} {j = 5} (omega arith)
+
+wide-requires : tie.Need-wide-requires Inv-loop μ-loop
 wide-requires c κs = search needs
 
-mul-top : tie.Need-mul-top
-mul-top c = search needs
+loop-holds : tie.Need-loop-holds Inv-loop μ-loop
+loop-holds c = (search needs, refl, c .wide .ensures .1)
 
-array-read-wide : tie.Need-array-read-wide
+mul-k : tie.Need-mul-k Inv-loop μ-loop
+mul-k c =
+    let l = c .before .loop in
+    let b = small (l .i) (c .loop-test .taken) in
+    let h = l .inv .2 in
+    omega arith
+
+array-read-wide : tie.Need-array-read-wide Inv-loop μ-loop
 array-read-wide c = search needs
 
-wide-requires-2 : tie.Need-wide-requires-2
+wide-requires-2 : tie.Need-wide-requires-2 Inv-loop μ-loop
 wide-requires-2 c κs = search needs
 
-add-top : tie.Need-add-top
-add-top c = search needs
+add-k : tie.Need-add-k Inv-loop μ-loop
+add-k c =
+    let l = c .before .before .loop in
+    let b = small (l .i) (c .before .loop-test .taken) in
+    let h = l .inv .2 in
+    let w = c .wide2 .ensures .1 in
+    omega arith
 
-mul-top-2 : tie.Need-mul-top-2
-mul-top-2 c = search needs
+add-i : tie.Need-add-i Inv-loop μ-loop
+add-i c = search needs
 
-array-read-wide-2 : tie.Need-array-read-wide-2
-array-read-wide-2 c = search needs
+loop-less : tie.Need-loop-less Inv-loop μ-loop
+loop-less c = search needs
 
-wide-requires-3 : tie.Need-wide-requires-3
-wide-requires-3 c κs = search needs
-
-add-top-2 : tie.Need-add-top-2
-add-top-2 c = search needs
-
-mul-top-3 : tie.Need-mul-top-3
-mul-top-3 c = search needs
-
-array-read-wide-3 : tie.Need-array-read-wide-3
-array-read-wide-3 c = search needs
-
-wide-requires-4 : tie.Need-wide-requires-4
-wide-requires-4 c κs = search needs
-
-add-top-3 : tie.Need-add-top-3
-add-top-3 c = search needs
-
-mul-result : tie.Need-mul-result
-mul-result c = search needs
-
-array-read-wide-4 : tie.Need-array-read-wide-4
-array-read-wide-4 c = search needs
-
-wide-requires-5 : tie.Need-wide-requires-5
-wide-requires-5 c κs = search needs
-
-add-result : tie.Need-add-result
-add-result c = search needs
-
-mul-result-2 : tie.Need-mul-result-2
-mul-result-2 c = search needs
-
-array-read-wide-5 : tie.Need-array-read-wide-5
-array-read-wide-5 c = search needs
-
-wide-requires-6 : tie.Need-wide-requires-6
-wide-requires-6 c κs = search needs
-
-add-result-2 : tie.Need-add-result-2
-add-result-2 c = search needs
-
-mul-result-3 : tie.Need-mul-result-3
-mul-result-3 c = search needs
-
-array-read-wide-6 : tie.Need-array-read-wide-6
-array-read-wide-6 c = search needs
-
-wide-requires-7 : tie.Need-wide-requires-7
-wide-requires-7 c κs = search needs
-
-add-result-3 : tie.Need-add-result-3
-add-result-3 c = search needs
-
-returns : tie.Need-returns
-returns c =
-    let p = c .before .before .before .before .before .before .before .before .args .p in
+loop-again : tie.Need-loop-again Inv-loop μ-loop
+loop-again c =
+    let l = c .before .before .loop in
+    let p = c .before .before .before .before .before .args .p in
     let full : length (p .steps) ≡ 6 = search needs in
-    let b6 = c .before in
-    let b5 = b6 .before in
-    let b4 = b5 .before in
-    let b3 = b4 .before in
-    let b2 = b3 .before in
-    let b1 = b2 .before in
-    six-of (p .len) (p .steps) full (b1 .wide .ensures .0) (b2 .wide2 .ensures .0) (b3 .wide3 .ensures .0) (b4 .wide4 .ensures .0) (b5 .wide5 .ensures .0) (b6 .wide6 .ensures .0) (c .wide7 .ensures .0)
+    let t = c .before .loop-test .taken in
+    let w = c .wide2 .ensures in
+    let e : 128 ^ (l .i + 1) ≡ 128 ^ l .i * 128 = rw add-one (pow-suc 128 (l .i)) in
+    let one : 1 ≤ 128 ^ l .i = pow-le-pow-right {n = 128} (omega arith) {i = 0} {j = l .i} (omega arith) in
+    let h = l .inv .2 in
+    let small-step = w .1 in
+    (search needs, ap (λ x. number (l .k * 64 + x) (drop (l .i + 1) (p .steps))) (w .0) ∙ digit-next (l .k) (l .i) (p .steps) (omega arith) ∙ l .inv .1, omega arith)
+
+returns : tie.Need-returns Inv-loop μ-loop
+returns c =
+    let l = c .before .loop in
+    let p = c .before .before .before .before .args .p in
+    let full : length (p .steps) ≡ 6 = search needs in
+    sym (digits-end (l .k) (l .i) (p .steps) (omega arith)) ∙ l .inv .1 ∙ ap (λ k. number k (p .steps)) (c .before .before .wide .ensures .0)
 
 pub key-spec : {M : Type 1} → statement M
 key-spec =
     tie.close
     (tie.spec
+    Inv-loop
+    μ-loop
     wide-requires
-    mul-top
+    loop-holds
+    mul-k
     array-read-wide
     wide-requires-2
-    add-top
-    mul-top-2
-    array-read-wide-2
-    wide-requires-3
-    add-top-2
-    mul-top-3
-    array-read-wide-3
-    wide-requires-4
-    add-top-3
-    mul-result
-    array-read-wide-4
-    wide-requires-5
-    add-result
-    mul-result-2
-    array-read-wide-5
-    wide-requires-6
-    add-result-2
-    mul-result-3
-    array-read-wide-6
-    wide-requires-7
-    add-result-3
+    add-k
+    add-i
+    loop-less
+    loop-again
     returns)
