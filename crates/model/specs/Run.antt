@@ -290,3 +290,8 @@ runFrom s (c ∷ l) = let out = step s c in out .1 ∷ runFrom (out .0) l
 -- from the fresh state
 abbrev pub run : List Call → List Reply
 run l = runFrom fresh l
+
+-- the state that a list of calls leaves
+abbrev pub after : State → List Call → State
+after s [] = s
+after s (c ∷ l) = after (step s c .0) l

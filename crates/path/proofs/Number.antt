@@ -87,7 +87,7 @@ pad-list [] (y ∷ q) z e = absurd (omega arith)
 pad-list (x ∷ p) [] z e = absurd (omega arith)
 pad-list (x ∷ p) (y ∷ q) z e = ap (λ t. lexed x y t) (pad-list p q z (omega arith))
 
-pad-before : (l m : Address) → lexed (length l) (length m) (ltList ltb (slots 6 0 l) (slots 6 0 m)) ≡ before l m
+pub pad-before : (l m : Address) → lexed (length l) (length m) (ltList ltb (slots 6 0 l) (slots 6 0 m)) ≡ before l m
 pad-before l m = go (tri (length l) (length m))
   where
     go : Tri (length l) (length m) → lexed (length l) (length m) (ltList ltb (slots 6 0 l) (slots 6 0 m)) ≡ before l m

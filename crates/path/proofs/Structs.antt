@@ -11,6 +11,7 @@ use lib.ListN.{length, replicate, getD, set, take, drop, length-append, length-r
 use lib.Seq.{length-take-le, take-suc, take-suc-set, take-at, set-at, take-all, getD-at, set-append-left, set-getD, take-append-le}
 use borrow.Author.Tests.{ne-eqb, eq-eqb, le-leb, lt-leb}
 use Rattle.laws.specs.Slots.{pick, slots}
+use Rattle.laws.proofs.Fill.{is-fits}
 use Rattle.path.specs.Address.{Address, valid, stepsGood, under, beside, atLast, parent, last, child, within, off}
 use Rattle.path.specs.View.{steps, asked, pathOf, PathSound, movedOf}
 use Rattle.path.specs.declared.Path.{Path}
@@ -83,7 +84,7 @@ zeros zero i = refl
 zeros (suc n) zero = refl
 zeros (suc n) (suc i) = zeros n i
 
-padded : (l : List ℕ) (n i : ℕ) → getD (l ++ replicate n 0) i 0 ≡ getD l i 0
+pub padded : (l : List ℕ) (n i : ℕ) → getD (l ++ replicate n 0) i 0 ≡ getD l i 0
 padded [] n i = zeros n i
 padded (x ∷ l) n zero = refl
 padded (x ∷ l) n (suc i) = padded l n i
@@ -333,3 +334,26 @@ within-fits l h = rw (le-leb (length l) 6 h)
 
 pub within-deep : (l : Address) → 6 < length l → within l ≡ none
 within-deep l h = rw (lt-leb (length l) 6 h)
+
+-- ---- the parent of a path is a path
+map-and : (a b c : Bool) → (T b → T c) → T (a && b) → T (a && c)
+map-and true b c f t = f t
+map-and false b c f t = t
+
+parent-good : (l : Address) → T (stepsGood l) → T (stepsGood (parent l))
+parent-good [] t = tt
+parent-good (x ∷ []) t = tt
+parent-good (x ∷ y ∷ l) t = map-and (leb 1 x && leb x 32) (stepsGood (y ∷ l)) (stepsGood (parent (y ∷ l))) (parent-good (y ∷ l)) t
+
+parent-short : (l : Address) → length (parent l) ≤ length l
+parent-short [] = omega arith
+parent-short (x ∷ []) = omega arith
+parent-short (x ∷ y ∷ l) = let h = parent-short (y ∷ l) in omega arith
+
+pub parent-sound : {p r : Path} → PathSound p → r ≡ pathOf (parent (steps p)) → PathSound r
+parent-sound {p} h e =
+    let t = is-fits pathOf steps view-path (λ l. T (valid l)) p h in
+    let n = valid-short (steps p) t in
+    let m = parent-short (steps p) in
+    let g = parent-good (steps p) (both (leb (length (steps p)) 6) (stepsGood (steps p)) t .1) in
+    record { model = parent (steps p); same = e; fits = rw (le-leb (length (parent (steps p))) 6 (omega arith)) g }

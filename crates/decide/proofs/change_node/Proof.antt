@@ -1,0 +1,58 @@
+-- `decide::change_node` meets its contract: nothing where there is no node, else the owner's right or permissions that match for read and for change. Assumes nothing.
+use borrow.Author.Needs.{needs}
+use Rattle.path.specs.View.{steps}
+use Rattle.model.specs.Decide.{matched, changeBy}
+use Rattle.model.specs.Moves.{permissionsIn}
+use Rattle.tables.specs.View.{viewDossier}
+use Rattle.decide.specs.View.{viewSubject}
+use Rattle.tables.proofs.Parts.{nodes-sound, permissions-sound}
+use Rattle.decide.proofs.Objects.{no-node, on-node, owning, not-owning, both-joined}
+use Rattle.decide.proofs.change_node.Statement.{statement}
+use Rattle.decide.proofs.change_node.Tie as tie
+
+owner-in-requires : tie.Need-owner-in-requires
+owner-in-requires c κs = (nodes-sound (c .pre .0), c .pre .1)
+
+enum-told : tie.Need-enum-told
+enum-told c = search needs
+
+enum-known-u : tie.Need-enum-known-u
+enum-known-u c = search needs
+
+returns : tie.Need-returns
+returns c =
+    let k = c .before .before .before in
+    let s = k .before .before .before in
+    on-node (changeBy (viewSubject (s .args .s))) (steps (s .args .p)) (viewDossier (s .args .d)) (k .before .before .owner-in .ensures) (k .u .given .1)
+    (owning _ (c .if1 .taken))
+
+matched-requires : tie.Need-matched-requires
+matched-requires c κs =
+    let s = c .before .before .before .before .before .before in
+    (permissions-sound (s .pre .0), s .pre .1)
+
+matched-requires-2 : tie.Need-matched-requires-2
+matched-requires-2 c κs =
+    let s = c .before .before .before .before .before .before .before in
+    (permissions-sound (s .pre .0), s .pre .1)
+
+joined-requires : tie.Need-joined-requires
+joined-requires c κs = search needs
+
+returns-2 : tie.Need-returns-2
+returns-2 c =
+    let o = c .before .before in
+    no-node (changeBy (viewSubject (o .before .args .s))) (steps (o .before .args .p)) (viewDossier (o .before .args .d)) (o .owner-in .ensures) (c .enum-told .given .1)
+
+returns-3 : tie.Need-returns-3
+returns-3 c =
+    let m = c .before .before in
+    let k = m .before .before .before .before in
+    let s = k .before .before .before in
+    let a = viewSubject (s .args .s) in
+    let l = permissionsIn (steps (s .args .p)) 0 (viewDossier (s .args .d) .permissions) in
+    on-node (changeBy a) (steps (s .args .p)) (viewDossier (s .args .d)) (k .before .before .owner-in .ensures) (k .u .given .1)
+    (not-owning _ (m .before .if1 .left) (both-joined (matched a 1 l) (matched a 2 l) (c .joined .ensures) (m .matched .ensures) (c .before .matched2 .ensures)))
+
+pub change-node-spec : {M : Type 1} → statement M
+change-node-spec = tie.close (tie.spec owner-in-requires enum-told enum-known-u returns matched-requires matched-requires-2 joined-requires returns-2 returns-3)

@@ -1,0 +1,4 @@
+pub mod Rows
+pub mod Compare
+pub mod Asked
+pub mod Parts

@@ -1,0 +1,316 @@
+// What is asked of a table: a lookup stops at the first hit.
+ghost use mathlib.Core.Path.{_≡_};
+ghost use mathlib.Core.Bool.{_&&_};
+ghost use Prim.Native.Nat.{_≤_, max};
+ghost use lib.ListN.{length};
+ghost use Rattle.path.specs.Address.{off};
+ghost use Rattle.path.specs.View.{steps, PathSound};
+ghost use Rattle.model.specs.Moves.{ownerIn, attributeIn, permissionsIn, namesIn, childrenIn, oneStep, deepest, carried, holds, sameTime, samePermission};
+ghost use Rattle.model.specs.Refusals as refusals;
+ghost use Rattle.model.specs.Image as images;
+ghost use Rattle.tables.specs.View.{viewNodes, NodesSound, viewAttributes, AttributesSound, viewPermissions, PermissionsSound, viewGrant, ownerOf, foundOf, namesOf};
+use crate::Attributes;
+use crate::Grant;
+use crate::Nodes;
+use crate::Permissions;
+use crate::Span;
+use crate::Value;
+use path::Path;
+use path::is_same;
+use path::is_under;
+
+// A node's owner, or that there is no such node: nobody is no user.
+pub enum Owner {
+    Nobody,
+    User(u8),
+}
+
+// An attribute's owner and value, or that there is none.
+pub enum Found {
+    Absent,
+    Present(u8, Value),
+}
+
+// The names on a node, ascending; unused places are 0.
+pub struct Names {
+    pub names: [u16; 16],
+    pub count: usize,
+}
+
+pub fn owner_in(t: Nodes, p: Path) -> Owner
+    requires { ⌜ NodesSound t × PathSound p ⌝ }
+    ensures { λ r. ⌜ r ≡ ownerOf (ownerIn (steps p) (viewNodes t)) ⌝ }
+{
+    let n = t.count;
+    let mut i: usize = 0;
+    while i < n {
+        let node = t.rows[i];
+        if is_same(node.path, p) {
+            return Owner::User(node.owner);
+        }
+        i += 1;
+    }
+    Owner::Nobody
+}
+
+pub fn attribute_in(t: Attributes, p: Path, name: u16) -> Found
+    requires { ⌜ AttributesSound t × PathSound p ⌝ }
+    ensures { λ r. ⌜ r ≡ foundOf (attributeIn (steps p) name (viewAttributes t)) ⌝ }
+{
+    let n = t.count;
+    let mut i: usize = 0;
+    while i < n {
+        let a = t.rows[i];
+        if a.name == name {
+            if is_same(a.path, p) {
+                let v = a.value;
+                return Found::Present(a.owner, v);
+            }
+            i += 1;
+        } else {
+            i += 1;
+        }
+    }
+    Found::Absent
+}
+
+// Whether both ends are equal.
+pub fn same_span(s: Span, u: Span) -> bool
+    ensures { λ r. ⌜ r ≡ (sameTime (s .first) (u .first) && sameTime (s .last) (u .last)) ⌝ }
+{
+    ((s.first <= u.first) & (u.first <= s.first)) & ((s.last <= u.last) & (u.last <= s.last))
+}
+
+// Whether every field of the two is equal.
+pub fn same_grant(g: Grant, h: Grant) -> bool
+    ensures { λ r. ⌜ r ≡ samePermission (viewGrant g) (viewGrant h) ⌝ }
+{
+    let times = same_span(g.span, h.span);
+    (g.role == h.role)
+        & ((g.action == h.action)
+            & ((g.user == h.user)
+                & (times & ((g.messages == h.messages) & (g.agreements == h.agreements)))))
+}
+
+// Whether the object has exactly this permission.
+pub fn holds_in(t: Permissions, p: Path, name: u16, g: Grant) -> bool
+    requires { ⌜ PermissionsSound t × PathSound p ⌝ }
+    ensures { λ r. ⌜ r ≡ holds (viewGrant g) (permissionsIn (steps p) name (viewPermissions t)) ⌝ }
+{
+    let n = t.count;
+    let mut i: usize = 0;
+    while i < n {
+        let a = t.rows[i];
+        if (a.name == name) & is_same(a.path, p) {
+            if same_grant(g, a.grant) {
+                return true;
+            }
+            i += 1;
+        } else {
+            i += 1;
+        }
+    }
+    false
+}
+
+// Whether p is a child of q.
+pub fn is_child(p: Path, q: Path) -> bool
+    requires { ⌜ PathSound p × PathSound q ⌝ }
+    ensures { λ r. ⌜ r ≡ images.there (oneStep (off (steps q) (steps p))) ⌝ }
+{
+    if p.len != q.len + 1 {
+        return false;
+    }
+    is_under(p, q)
+}
+
+pub fn children_in(t: Nodes, q: Path) -> usize
+    requires { ⌜ NodesSound t × PathSound q ⌝ }
+    ensures { λ r. ⌜ r ≡ childrenIn (steps q) (viewNodes t) ⌝ }
+{
+    let n = t.count;
+    let mut found: usize = 0;
+    let mut i: usize = 0;
+    while i < n {
+        let a = t.rows[i];
+        if is_child(a.path, q) {
+            found += 1;
+            i += 1;
+        } else {
+            i += 1;
+        }
+    }
+    found
+}
+
+// The names on the node at p, of which there are at most 16.
+pub fn names_in(t: Attributes, p: Path) -> Names
+    requires { ⌜ AttributesSound t × PathSound p × (length (namesIn (steps p) (viewAttributes t)) ≤ 16) ⌝ }
+    ensures { λ r. ⌜ r ≡ namesOf (namesIn (steps p) (viewAttributes t)) ⌝ }
+{
+    let n = t.count;
+    let mut out = Names {
+        names: [0; 16],
+        count: 0,
+    };
+    let mut k: usize = 0;
+    let mut i: usize = 0;
+    while i < n {
+        let a = t.rows[i];
+        if is_same(a.path, p) {
+            out.names[k] = a.name;
+            k += 1;
+            i += 1;
+        } else {
+            i += 1;
+        }
+    }
+    out.count = k;
+    out
+}
+
+// How many attributes the node at p has.
+pub fn count_on(t: Attributes, p: Path) -> usize
+    requires { ⌜ AttributesSound t × PathSound p ⌝ }
+    ensures { λ r. ⌜ r ≡ length (namesIn (steps p) (viewAttributes t)) ⌝ }
+{
+    let n = t.count;
+    let mut found: usize = 0;
+    let mut i: usize = 0;
+    while i < n {
+        let a = t.rows[i];
+        if is_same(a.path, p) {
+            found += 1;
+            i += 1;
+        } else {
+            i += 1;
+        }
+    }
+    found
+}
+
+// How many nodes, attributes and permissions the branch at q has.
+pub fn nodes_under(t: Nodes, q: Path) -> usize
+    requires { ⌜ NodesSound t × PathSound q ⌝ }
+    ensures { λ r. ⌜ r ≡ length (carried (off (steps q)) (viewNodes t)) ⌝ }
+{
+    let n = t.count;
+    let mut found: usize = 0;
+    let mut i: usize = 0;
+    while i < n {
+        let a = t.rows[i];
+        if is_under(a.path, q) {
+            found += 1;
+            i += 1;
+        } else {
+            i += 1;
+        }
+    }
+    found
+}
+
+pub fn attributes_under(t: Attributes, q: Path) -> usize
+    requires { ⌜ AttributesSound t × PathSound q ⌝ }
+    ensures { λ r. ⌜ r ≡ length (carried (off (steps q)) (viewAttributes t)) ⌝ }
+{
+    let n = t.count;
+    let mut found: usize = 0;
+    let mut i: usize = 0;
+    while i < n {
+        let a = t.rows[i];
+        if is_under(a.path, q) {
+            found += 1;
+            i += 1;
+        } else {
+            i += 1;
+        }
+    }
+    found
+}
+
+pub fn permissions_under(t: Permissions, q: Path) -> usize
+    requires { ⌜ PermissionsSound t × PathSound q ⌝ }
+    ensures { λ r. ⌜ r ≡ length (carried (off (steps q)) (viewPermissions t)) ⌝ }
+{
+    let n = t.count;
+    let mut found: usize = 0;
+    let mut i: usize = 0;
+    while i < n {
+        let a = t.rows[i];
+        if is_under(a.path, q) {
+            found += 1;
+            i += 1;
+        } else {
+            i += 1;
+        }
+    }
+    found
+}
+
+// The steps of the longest path in the branch at q, counted from q.
+pub fn depth_under(t: Nodes, q: Path) -> usize
+    requires { ⌜ NodesSound t × PathSound q ⌝ }
+    ensures { λ r. ⌜ r ≡ deepest (carried (off (steps q)) (viewNodes t)) ⌝ }
+{
+    let n = t.count;
+    let mut most: usize = 0;
+    let mut i: usize = 0;
+    while i < n {
+        let a = t.rows[i];
+        if is_under(a.path, q) {
+            let below = (a.path.len - q.len) as usize;
+            most = larger(most, below);
+            i += 1;
+        } else {
+            i += 1;
+        }
+    }
+    most
+}
+
+fn larger(a: usize, b: usize) -> usize
+    ensures { λ r. ⌜ r ≡ max a b ⌝ }
+{
+    if a < b {
+        return b;
+    }
+    a
+}
+
+// ---- bounds, each a test of its own
+
+pub fn nodes_over(total: usize) -> bool
+    ensures { λ r. ⌜ r ≡ refusals.nodesOver total ⌝ }
+{
+    64 < total
+}
+
+pub fn depth_over(total: usize) -> bool
+    ensures { λ r. ⌜ r ≡ refusals.depthOver total ⌝ }
+{
+    6 < total
+}
+
+pub fn children_over(total: usize) -> bool
+    ensures { λ r. ⌜ r ≡ refusals.childrenOver total ⌝ }
+{
+    32 < total
+}
+
+pub fn attributes_over(total: usize) -> bool
+    ensures { λ r. ⌜ r ≡ refusals.attributesOver total ⌝ }
+{
+    256 < total
+}
+
+pub fn on_node_over(total: usize) -> bool
+    ensures { λ r. ⌜ r ≡ refusals.onNodeOver total ⌝ }
+{
+    16 < total
+}
+
+pub fn permissions_over(total: usize) -> bool
+    ensures { λ r. ⌜ r ≡ refusals.permissionsOver total ⌝ }
+{
+    128 < total
+}

@@ -1,0 +1,187 @@
+// The dossier as arrays: rows of nodes, attributes and permissions, and what is asked of them.
+ghost use mathlib.Core.Path.{_≡_};
+ghost use mathlib.Core.List.{[]};
+ghost use Rattle.path.specs.View.{steps, PathSound};
+ghost use Rattle.tables.specs.View.{nodeOf, viewNode, NodeSound, attributeOf, viewAttribute, AttributeSound, permissionOf, viewPermission, PermissionSound, nodesOf, attributesOf, permissionsOf, blankNode, blankAttribute, blankPermission};
+use path::Path;
+
+pub mod ask;
+pub mod order;
+
+// A whole number, or a measured reading.
+pub enum Value {
+    Whole(u32),
+    Reading(f32),
+}
+
+pub struct Node {
+    pub path: Path,
+    pub owner: u8,
+}
+
+pub struct Attribute {
+    pub path: Path,
+    pub name: u16,
+    pub owner: u8,
+    pub value: Value,
+}
+
+// Both ends of an interval of times belong to it.
+pub struct Span {
+    pub first: i64,
+    pub last: i64,
+}
+
+// A permission without its object: user 0 is any user; messages and agreements are sets, bit n for number n.
+pub struct Grant {
+    pub role: u8,
+    pub action: u8,
+    pub user: u8,
+    pub span: Span,
+    pub messages: u32,
+    pub agreements: u32,
+}
+
+// A permission for the node at the path (name 0) or for the attribute of that name there.
+pub struct Permission {
+    pub path: Path,
+    pub name: u16,
+    pub grant: Grant,
+}
+
+pub struct Nodes {
+    pub rows: [Node; 64],
+    pub count: usize,
+}
+
+pub struct Attributes {
+    pub rows: [Attribute; 256],
+    pub count: usize,
+}
+
+pub struct Permissions {
+    pub rows: [Permission; 128],
+    pub count: usize,
+}
+
+pub struct Dossier {
+    pub nodes: Nodes,
+    pub attributes: Attributes,
+    pub permissions: Permissions,
+}
+
+// Kind 0 is empty, 1 a branch, 2 one attribute with its permissions, all at the root's path.
+pub struct Clipboard {
+    pub kind: u8,
+    pub held: Dossier,
+}
+
+// ---- blank rows and empty tables
+
+pub fn blank_node() -> Node
+    ensures { λ r. ⌜ r ≡ blankNode ⌝ }
+{
+    Node {
+        path: Path {
+            len: 0,
+            steps: [0; 6],
+        },
+        owner: 0,
+    }
+}
+
+pub fn blank_attribute() -> Attribute
+    ensures { λ r. ⌜ r ≡ blankAttribute ⌝ }
+{
+    Attribute {
+        path: Path {
+            len: 0,
+            steps: [0; 6],
+        },
+        name: 0,
+        owner: 0,
+        value: Value::Whole(0),
+    }
+}
+
+pub fn blank_permission() -> Permission
+    ensures { λ r. ⌜ r ≡ blankPermission ⌝ }
+{
+    let s = Span { first: 0, last: 0 };
+    let g = Grant {
+        role: 0,
+        action: 0,
+        user: 0,
+        span: s,
+        messages: 0,
+        agreements: 0,
+    };
+    Permission {
+        path: Path {
+            len: 0,
+            steps: [0; 6],
+        },
+        name: 0,
+        grant: g,
+    }
+}
+
+pub fn no_nodes() -> Nodes
+    ensures { λ r. ⌜ r ≡ nodesOf [] ⌝ }
+{
+    let b = blank_node();
+    Nodes {
+        rows: [b; 64],
+        count: 0,
+    }
+}
+
+pub fn no_attributes() -> Attributes
+    ensures { λ r. ⌜ r ≡ attributesOf [] ⌝ }
+{
+    let b = blank_attribute();
+    Attributes {
+        rows: [b; 256],
+        count: 0,
+    }
+}
+
+pub fn no_permissions() -> Permissions
+    ensures { λ r. ⌜ r ≡ permissionsOf [] ⌝ }
+{
+    let b = blank_permission();
+    Permissions {
+        rows: [b; 128],
+        count: 0,
+    }
+}
+
+// ---- a row at another path
+
+pub fn node_to(a: Node, p: Path) -> Node
+    requires { ⌜ NodeSound a × PathSound p ⌝ }
+    ensures { λ r. ⌜ r ≡ nodeOf (steps p, viewNode a .1) ⌝ }
+{
+    Node {
+        path: p,
+        owner: a.owner,
+    }
+}
+
+pub fn attribute_to(a: Attribute, p: Path) -> Attribute
+    requires { ⌜ AttributeSound a × PathSound p ⌝ }
+    ensures { λ r. ⌜ r ≡ attributeOf (steps p, viewAttribute a .1) ⌝ }
+{
+    let mut b = a;
+    b.path = p;
+    b
+}
+
+pub fn permission_to(a: Permission, p: Path) -> Permission
+    requires { ⌜ PermissionSound a × PathSound p ⌝ }
+    ensures { λ r. ⌜ r ≡ permissionOf (steps p, viewPermission a .1) ⌝ }
+{
+    let mut b = a;
+    b.path = p;
+    b
+}
