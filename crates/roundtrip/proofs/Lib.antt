@@ -1,0 +1,15 @@
+pub mod Checks
+pub mod Orders
+pub mod Prefix
+pub mod Clash
+pub mod Bytes
+pub mod Records
+pub mod Scan
+pub mod Images
+pub mod Ascend
+pub mod Found
+pub mod Load
+pub mod Kept
+pub mod SaveLoad
+pub mod Cached
+pub mod Append
