@@ -1,11 +1,11 @@
 -- Strict orders: of numbers, of pairs and lists compared part by part, and an order pulled back along an injection. Assumes nothing.
-use mathlib.Core.Path.{_≡_, refl, sym, ap, ap₂, subst, subst₂, _∙_}
+use mathlib.Core.Path.{_≡_, refl, sym, ap₂, subst, _∙_}
 use mathlib.Core.Logic.{_⊎_, inl, inr, ⊎-elim}
 use mathlib.Core.Bool.{Bool, true, false, not}
 use mathlib.Core.List.{List, [], _∷_}
-use Prim.Native.Nat.{ℕ, zero, suc, _+_, _≤_, _<_}
+use Prim.Native.Nat.{_≤_, _<_}
 use native.Mathlib.Omega.{arith}
-use lib.Dec.{T, ltb, ltb→lt, lt→ltb, nltb→le, T-not, not-T}
+use lib.Dec.{T, ltb, ltb→lt, lt→ltb, nltb→le}
 use Rattle.laws.specs.Sorted.{StrictOrder}
 use Rattle.laws.specs.Order.{lex, lex2, ltList, ltPair}
 

@@ -1,5 +1,5 @@
 -- Who may do what (document 01, "Granted", "Clash", "Delegate", "Provisions"), on plain values: owners, permissions of one object, sets.
-use mathlib.Core.Bool.{Bool, true, false, _&&_, _||_, not}
+use mathlib.Core.Bool.{Bool, true, false, _&&_, _||_}
 use mathlib.Core.Option.{Option, none, some}
 use mathlib.Core.List.{List, [], _∷_}
 use Prim.Native.Nat.{ℕ, zero, suc, _/_, _%_}
@@ -9,7 +9,7 @@ use lib.Dec.{eqb}
 use lib.Bits.{bitAnd, bitOr}
 use Rattle.laws.specs.Slots.{pick}
 use Rattle.laws.specs.Sorted.{push}
-use Rattle.model.specs.Things.{Value, Permission}
+use Rattle.model.specs.Things.{Permission}
 
 -- who asks, in which role, when
 pub record Subject : Type 0 where

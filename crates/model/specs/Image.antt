@@ -3,8 +3,7 @@ use mathlib.Core.Bool.{Bool, true, false, _&&_, _||_, not}
 use mathlib.Core.Option.{Option, none, some}
 use mathlib.Core.List.{List, [], _∷_, _++_, map}
 use Prim.Native.Nat.{ℕ, zero, suc, _+_, _-_, _*_, _/_, _%_}
-use lib.IntN.{ℤ}
-use lib.Ieee.{Float, ofBits, toBits, binary32}
+use lib.Ieee.{ofBits, toBits, binary32}
 use lib.Dec.{eqb, leb, ltb}
 use lib.ListN.{length, take, drop, getD, replicate}
 use mir.Syntax.{w64}
@@ -12,7 +11,7 @@ use mir.Val.{toZ, ofZ}
 use Rattle.laws.specs.Slots.{pick, slots}
 use Rattle.laws.specs.Sorted.{insert}
 use Rattle.laws.specs.Order.{ltList}
-use Rattle.path.specs.Address.{Address, valid, same, parent, last, child}
+use Rattle.path.specs.Address.{Address, valid, parent, last, child}
 use Rattle.model.specs.Things.{Value, whole, reading, Attribute, Permission, Row, Dossier, Clipboard, empty, branch, single, beforeNode, ltPermission}
 use Rattle.model.specs.Decide.{Object, clashAny}
 use Rattle.model.specs.Moves.{nodeAt, attributeAt, objectAt, namesOn, grantRow, withAttribute, addPermission}

@@ -1,7 +1,7 @@
 -- How a dossier changes (document 01, "How addresses move"), for any payload: a row goes where its path goes.
 use mathlib.Core.Bool.{Bool, true, false, _&&_, not}
 use mathlib.Core.Option.{Option, none, some, Option·map}
-use mathlib.Core.List.{List, [], _∷_, _++_, map}
+use mathlib.Core.List.{List, [], _∷_, map}
 use Prim.Native.Nat.{ℕ, max}
 use lib.IntN.{ℤ}
 use lib.Signed.{leZ}

@@ -1,5 +1,5 @@
 -- Every public call: what it answers, what it leaves, and runs of calls from the fresh state.
-use mathlib.Core.Bool.{Bool, true, false, _&&_, _||_, not}
+use mathlib.Core.Bool.{Bool, true, false, _&&_, not}
 use mathlib.Core.Option.{Option, none, some}
 use mathlib.Core.List.{List, [], _∷_, _++_, map}
 use Prim.Native.Nat.{ℕ, _+_, _-_, _^_}
@@ -9,7 +9,7 @@ use lib.Bits.{bitOr}
 use lib.ListN.{length, drop, getD, set}
 use Rattle.laws.specs.Slots.{pick}
 use Rattle.path.specs.Address.{Address, valid, parent}
-use Rattle.model.specs.Things.{Value, Attribute, Permission, Dossier, Clipboard, empty, branch, single, State, bare, fresh}
+use Rattle.model.specs.Things.{Value, Attribute, Dossier, Clipboard, empty, branch, single, State, bare, fresh}
 use Rattle.model.specs.Decide.{Subject, Object, Provisions, joined, readBy, changeBy, given, members}
 use Rattle.model.specs.Moves as moves
 use Rattle.model.specs.Moves.{nodeAt, attributeAt, attributeObject, objectAt, permissionsFor, namesOn, childCount, deepest}

@@ -11,11 +11,11 @@ use native.Mathlib.Numerals.{add-one}
 use borrow.Author.Tests.{eq-eqb, eqb-true, le-ltb, lt-ltb, ltb-true, ltb-false}
 use Rattle.laws.specs.Slots.{slots}
 use Rattle.laws.specs.Order.{lex, ltList}
-use Rattle.laws.proofs.Order.{ℕ-order, list-order, pair-order}
 use Rattle.path.specs.Address.{Address, same, before}
 use Rattle.path.specs.declared.Path.{Path}
 use Rattle.path.specs.View.{steps, pathOf, PathSound, number}
-use Rattle.path.proofs.Structs.{no, pick-true, facts}
+use Rattle.path.proofs.Laws.{address-order, same-self, same-true}
+use Rattle.path.proofs.Structs.{facts}
 
 data Tri (k j : ℕ) : Type 0 where
   less : k < j → Tri k j
@@ -95,21 +95,8 @@ pad-before l m = go (tri (length l) (length m))
     go (more a) = lex-more (length l) (length m) _ a ∙ sym (lex-more (length l) (length m) _ a)
     go (equal a) = ap (λ t. lexed (length l) (length m) t) (ap (λ k. ltList ltb (slots 6 0 l) (m ++ replicate (6 - k) 0)) (sym a) ∙ pad-list l m (replicate (6 - length l) 0) a)
 
--- ---- the same address
-same-self : (l : Address) → same l l ≡ true
-same-self [] = refl
-same-self (x ∷ l) = rw (eq-eqb x x refl) (same-self l)
-
-same-eq : (l m : Address) → same l m ≡ true → l ≡ m
-same-eq [] [] e = refl
-same-eq [] (y ∷ m) e = no (sym e)
-same-eq (x ∷ l) [] e = no (sym e)
-same-eq (x ∷ l) (y ∷ m) e =
-    let h = pick-true (eqb x y) (same l m) e in ap₂ (λ (c : ℕ) (r : List ℕ). c ∷ r) (eqb-true x y (h .0)) (same-eq l m (h .1))
-
 neither : (l m : Address) → before l m ≡ false → before m l ≡ false → l ≡ m
-neither l m e f =
-    ap (λ w. w .1) (pair-order ltb (ltList ltb) ℕ-order (list-order ltb ℕ-order) .conn (length l, l) (length m, m) (rw e tt) (rw f tt))
+neither l m e f = address-order .conn l m (rw e tt) (rw f tt)
 
 both-ways : (b c : Bool) → (b ≡ true → c ≡ true) → (c ≡ true → b ≡ true) → b ≡ c
 both-ways true c f g = sym (f refl)
@@ -141,5 +128,5 @@ key-same p q hp hq = both-ways (eqb (number (p .len) (p .steps)) (number (q .len
 
     from : same (steps p) (steps q) ≡ true → eqb (number (p .len) (p .steps)) (number (q .len) (q .steps)) ≡ true
     from e =
-        let s = facts p hp .is ∙ ap pathOf (same-eq (steps p) (steps q) e) ∙ sym (facts q hq .is) in
+        let s = facts p hp .is ∙ ap pathOf (same-true (steps p) (steps q) e) ∙ sym (facts q hq .is) in
         eq-eqb (number (p .len) (p .steps)) (number (q .len) (q .steps)) (ap (λ (x : Path). number (x .len) (x .steps)) s)

@@ -1,5 +1,4 @@
 -- What the second dossier stands for in the first one's tables, and what holds of every tree that the calls can leave.
-use mathlib.Core.Bool.{Bool}
 use mathlib.Core.List.{List, [], _∷_, map}
 use Prim.Native.Nat.{ℕ, _≤_}
 use mathlib.Core.Path.{_≡_}

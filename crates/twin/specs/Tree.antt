@@ -1,5 +1,5 @@
 -- The dossier without addresses: a tree whose nodes carry what goes with them. A position is counted in the child lists at that moment.
-use mathlib.Core.Bool.{Bool, true, false}
+use mathlib.Core.Bool.{Bool}
 use mathlib.Core.Option.{Option, none, some}
 use mathlib.Core.List.{List, [], _∷_, _++_, map}
 use Prim.Native.Nat.{ℕ, zero, suc, _+_, max}

@@ -9,13 +9,13 @@ use Rattle.laws.specs.Slots.{pick}
 use Rattle.laws.specs.Sorted.{merge, move}
 use Rattle.path.specs.Address.{Address, parent}
 use Rattle.model.specs.Things.{Value, Attribute, Permission, Row, beforeNode, beforeAttribute, beforePermission, ltAttribute, ltPermission, fresh}
-use Rattle.model.specs.Decide.{Object, Provisions, given}
+use Rattle.model.specs.Decide.{Object, Provisions}
 use Rattle.model.specs.Moves.{keep, head, samePermission, grantRow}
 use Rattle.model.specs.Refusals.{Request, choose, Sizes, Found, Cached, missing, userGood, granted, provisions, first, refusal}
 use Rattle.model.specs.Image.{Record, nodeRecord, attributeRecord, permissionRecord, Loaded, bad, good, loadFrom, bytesOf, nodeFits, attributeFits, permissionFits, left, there}
 use Rattle.model.specs.Run as run
-use Rattle.model.specs.Run.{Question, Call, start, new, load, save, saveClipboard, sign, takeLog, request, ask, Answer, done, contents, value, refused, badRecord, Reply, reply, short, written, writes, dossierGood, signed, logged, logBytes, standing, badQuestion, mayAsk, askBytes}
-use Rattle.twin.specs.Tree.{Tree, Forest, node, fnil, payload, kids, count, branch, look, pasteTree, deleteTree, setAt, height, weigh, table, then}
+use Rattle.model.specs.Run.{Question, Call, start, new, load, save, saveClipboard, sign, takeLog, request, ask, Answer, done, value, refused, badRecord, Reply, reply, short, writes, dossierGood, signed, logged, logBytes, standing, mayAsk}
+use Rattle.twin.specs.Tree.{Tree, node, fnil, kids, count, branch, look, pasteTree, deleteTree, setAt, height, weigh, table, then}
 
 -- ---- what a node and an attribute carry
 pub record Holding : Type 0 where
