@@ -1,8 +1,7 @@
 // The dossier as arrays: rows of nodes, attributes and permissions, and what is asked of them.
 ghost use mathlib.Core.Path.{_≡_};
 ghost use mathlib.Core.List.{[]};
-ghost use Rattle.path.specs.View.{steps, PathSound};
-ghost use Rattle.tables.specs.View.{nodeOf, viewNode, NodeSound, attributeOf, viewAttribute, AttributeSound, permissionOf, viewPermission, PermissionSound, nodesOf, attributesOf, permissionsOf, blankNode, blankAttribute, blankPermission};
+ghost use Rattle.tables.specs.View.{nodesOf, attributesOf, permissionsOf, blankNode, blankAttribute, blankPermission};
 use path::Path;
 
 pub mod ask;
@@ -154,34 +153,4 @@ pub fn no_permissions() -> Permissions
         rows: [b; 128],
         count: 0,
     }
-}
-
-// ---- a row at another path
-
-pub fn node_to(a: Node, p: Path) -> Node
-    requires { ⌜ NodeSound a × PathSound p ⌝ }
-    ensures { λ r. ⌜ r ≡ nodeOf (steps p, viewNode a .1) ⌝ }
-{
-    Node {
-        path: p,
-        owner: a.owner,
-    }
-}
-
-pub fn attribute_to(a: Attribute, p: Path) -> Attribute
-    requires { ⌜ AttributeSound a × PathSound p ⌝ }
-    ensures { λ r. ⌜ r ≡ attributeOf (steps p, viewAttribute a .1) ⌝ }
-{
-    let mut b = a;
-    b.path = p;
-    b
-}
-
-pub fn permission_to(a: Permission, p: Path) -> Permission
-    requires { ⌜ PermissionSound a × PathSound p ⌝ }
-    ensures { λ r. ⌜ r ≡ permissionOf (steps p, viewPermission a .1) ⌝ }
-{
-    let mut b = a;
-    b.path = p;
-    b
 }

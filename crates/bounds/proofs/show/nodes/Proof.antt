@@ -1,0 +1,54 @@
+-- `bounds::show::nodes` is safe: the index stays within the table. Assumes nothing.
+use borrow.Author.Needs.{needs}
+use Prim.Native.Nat.{_≤_, _-_}
+use Rattle.bounds.proofs.show.nodes.Statement.{statement}
+use Rattle.bounds.proofs.show.nodes.Tie as tie
+
+abbrev Inv-loop : tie.InvT-loop
+Inv-loop t n i₀ i = i ≤ 64
+
+abbrev μ-loop : tie.MeasureT-loop
+μ-loop t n i₀ i = 64 - i
+
+loop-holds : tie.Need-loop-holds Inv-loop μ-loop
+loop-holds c = search needs
+
+returns : tie.Need-returns Inv-loop μ-loop
+returns c = search needs
+
+mul-node : tie.Need-mul-node Inv-loop μ-loop
+mul-node c = search needs
+
+element-copy-out-node : tie.Need-element-copy-out-node Inv-loop μ-loop
+element-copy-out-node c = search needs
+
+node-requires : tie.Need-node-requires Inv-loop μ-loop
+node-requires c κs = search needs
+
+add-i : tie.Need-add-i Inv-loop μ-loop
+add-i c = search needs
+
+loop-less : tie.Need-loop-less Inv-loop μ-loop
+loop-less c = search needs
+
+loop-again : tie.Need-loop-again Inv-loop μ-loop
+loop-again c = search needs
+
+returns-2 : tie.Need-returns-2 Inv-loop μ-loop
+returns-2 c = search needs
+
+pub nodes-spec : {M : Type 1} → statement M
+nodes-spec =
+    tie.close
+    (tie.spec
+    Inv-loop
+    μ-loop
+    loop-holds
+    returns
+    mul-node
+    element-copy-out-node
+    node-requires
+    add-i
+    loop-less
+    loop-again
+    returns-2)

@@ -1,0 +1,37 @@
+-- `edits::add_permission` meets its contract: one table changes. Assumes nothing.
+use native.Mathlib.Omega.{arith}
+use lib.Dec.{T}
+use Rattle.laws.proofs.Fill.{is-fits}
+use Rattle.path.specs.Address.{valid}
+use Rattle.path.specs.View.{steps, pathOf}
+use Rattle.path.proofs.Structs.{facts, view-path}
+use Rattle.model.specs.Moves.{grantRow}
+use Rattle.tables.specs.View.{viewGrant}
+use Rattle.tables.proofs.Parts.{dossier-fits, nodes-sound, attributes-sound, permissions-sound}
+use Rattle.tables.proofs.Tables.{nodes-same, attributes-same, permissions-count}
+use Rattle.edits.proofs.add_permission.Statement.{statement}
+use Rattle.edits.proofs.add_permission.Tie as tie
+
+insert-requires : tie.Need-insert-requires
+insert-requires c κs =
+    let t = permissions-sound (dossier-fits (c .pre .0)) in
+    let e = permissions-count _ t in
+    let room = c .pre .2 in
+    let is = facts (c .args .p) (c .pre .1) .is in (
+      record {
+        model = grantRow (steps (c .args .p)) (c .args .name) (viewGrant (c .args .g));
+        same = λ i. record { path = is i; name = c .args .name; grant = c .args .g };
+        fits = is-fits pathOf steps view-path (λ l. T (valid l)) (c .args .p) (c .pre .1);
+      },
+      t,
+      omega arith,
+      c .pre .3,
+    )
+
+returns : tie.Need-returns
+returns c =
+    let h = dossier-fits (c .before .pre .0) in
+    λ i. record { nodes = nodes-same _ (nodes-sound h) i; attributes = attributes-same _ (attributes-sound h) i; permissions = (c .insert .ensures) i }
+
+pub add-permission-spec : {M : Type 1} → statement M
+add-permission-spec = tie.close (tie.spec insert-requires returns)

@@ -1,0 +1,59 @@
+-- `moves::attributes::paste_one` meets its contract: the cached row under its new name, inserted. Assumes nothing.
+use borrow.Author.Needs.{needs}
+use mathlib.Core.Path.{_≡_, ap, sym, subst, _∙_}
+use mathlib.Core.List.{[], _∷_}
+use mathlib.Core.Option.{none}
+use lib.Dec.{T}
+use lib.ListN.{getD}
+use Rattle.laws.specs.Sorted.{insert}
+use Rattle.laws.proofs.Fill.{is-fits}
+use Rattle.path.specs.Address.{valid}
+use Rattle.path.specs.View.{steps, pathOf}
+use Rattle.path.proofs.Structs.{facts, view-path}
+use Rattle.model.specs.Things as things
+use Rattle.model.specs.Things.{beforeAttribute}
+use Rattle.model.specs.Moves.{attributeIn}
+use Rattle.tables.specs.declared.Attribute.{Attribute}
+use Rattle.tables.specs.declared.Attributes.{Attributes}
+use Rattle.tables.specs.View.{viewAttribute, viewAttributes, attributeOf, attributesOf, viewValue, noAttribute}
+use Rattle.tables.proofs.Rows.{value-back, value-there}
+use Rattle.moves.proofs.attributes.paste_one.Statement.{statement}
+use Rattle.moves.proofs.attributes.paste_one.Tie as tie
+
+-- the first row of a table that holds one
+first-row : (t : Attributes) (a : things.Attribute) → t ≡ attributesOf (([], a) ∷ []) → getD (t .rows) 0 noAttribute ≡ attributeOf ([], a)
+unfolding attributesOf
+first-row t a e = ap (λ (x : Attributes). getD (x .rows) 0 noAttribute) e
+
+renamed-requires : tie.Need-renamed-requires
+renamed-requires c κs = search needs
+
+insert-requires : tie.Need-insert-requires
+insert-requires c κs =
+    let s = c .before in
+    let a = getD (s .args .c .rows) 0 noAttribute in
+    let e = facts (s .args .p) (s .pre .1) .is in
+    let w = sym (value-there (a .value)) in (
+      record {
+        model = (steps (s .args .p), record { name = s .args .name; owner = a .owner; value = viewValue (a .value) });
+        same = c .renamed .ensures ∙ (λ i. record { path = e i; name = s .args .name; owner = a .owner; value = w i });
+        fits = is-fits pathOf steps view-path (λ l. T (valid l)) (s .args .p) (s .pre .1);
+      },
+      s .pre .0,
+      s .pre .2,
+      subst (λ (z : Attribute). attributeIn (steps (z .path)) (z .name) (viewAttributes (s .args .t)) ≡ none) (sym (c .renamed .ensures)) (s .pre .3),
+    )
+
+returns : tie.Need-returns
+returns c =
+    let s = c .before .before in
+    λ a e.
+    let f = first-row (s .args .c) a e in
+    let v = value-back (a .value) in
+    c .insert .ensures
+    ∙ ap (λ z. attributesOf (insert beforeAttribute (viewAttribute z) (viewAttributes (s .args .t)))) (c .before .renamed .ensures)
+    ∙ ap (λ (z : Attribute). attributesOf (insert beforeAttribute (steps (s .args .p), record { name = s .args .name; owner = z .owner; value = viewValue (z .value) }) (viewAttributes (s .args .t)))) f
+    ∙ ap (λ x. attributesOf (insert beforeAttribute (steps (s .args .p), record { name = s .args .name; owner = a .owner; value = x }) (viewAttributes (s .args .t)))) v
+
+pub paste-one-spec : {M : Type 1} → statement M
+paste-one-spec = tie.close (tie.spec renamed-requires insert-requires returns)
