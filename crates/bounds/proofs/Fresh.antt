@@ -7,7 +7,7 @@ use Prim.Native.Nat.{ℕ}
 use lib.Dec.{T, eqb, eqb-refl}
 use native.Mathlib.Omega.{arith}
 use Rattle.laws.specs.Slots.{pick}
-use Rattle.laws.specs.Sorted.{_∈_, move}
+use Rattle.laws.specs.Sorted.{_∈_}
 use Rattle.laws.proofs.Sorted.{move-in}
 use Rattle.path.specs.Address.{Address, same}
 use Rattle.path.proofs.Laws.{same-refl}

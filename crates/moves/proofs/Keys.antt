@@ -24,7 +24,7 @@ apart (k ∷ q) p r h e = no (sym (under-on (k ∷ q) p) ∙ ap (under (k ∷ q)
 pub not-root : {q : Path} → PathSound q → 0 < q .len → 0 < length (steps q)
 not-root {q} h n = let f = facts q h .size in omega arith
 
-path-valid : {p : Path} → PathSound p → T (valid (steps p))
+pub path-valid : {p : Path} → PathSound p → T (valid (steps p))
 path-valid {p} h = is-fits pathOf steps view-path (λ l. T (valid l)) p h
 
 -- ---- at most six steps, each below 64: also where a step has become 33

@@ -1,14 +1,12 @@
 -- `edits::add_permission` meets its contract: one table changes. Assumes nothing.
 use native.Mathlib.Omega.{arith}
-use lib.Dec.{T}
-use Rattle.laws.proofs.Fill.{is-fits}
-use Rattle.path.specs.Address.{valid}
-use Rattle.path.specs.View.{steps, pathOf}
-use Rattle.path.proofs.Structs.{facts, view-path}
+use Rattle.path.specs.View.{steps}
+use Rattle.path.proofs.Structs.{facts}
 use Rattle.model.specs.Moves.{grantRow}
 use Rattle.tables.specs.View.{viewGrant}
 use Rattle.tables.proofs.Parts.{dossier-fits, nodes-sound, attributes-sound, permissions-sound}
 use Rattle.tables.proofs.Tables.{nodes-same, attributes-same, permissions-count}
+use Rattle.moves.proofs.Keys.{path-valid}
 use Rattle.edits.proofs.add_permission.Statement.{statement}
 use Rattle.edits.proofs.add_permission.Tie as tie
 
@@ -21,7 +19,7 @@ insert-requires c κs =
       record {
         model = grantRow (steps (c .args .p)) (c .args .name) (viewGrant (c .args .g));
         same = λ i. record { path = is i; name = c .args .name; grant = c .args .g };
-        fits = is-fits pathOf steps view-path (λ l. T (valid l)) (c .args .p) (c .pre .1);
+        fits = path-valid (c .pre .1);
       },
       t,
       omega arith,

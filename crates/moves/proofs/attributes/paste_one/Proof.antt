@@ -3,13 +3,10 @@ use borrow.Author.Needs.{needs}
 use mathlib.Core.Path.{_≡_, ap, sym, subst, _∙_}
 use mathlib.Core.List.{[], _∷_}
 use mathlib.Core.Option.{none}
-use lib.Dec.{T}
 use lib.ListN.{getD}
 use Rattle.laws.specs.Sorted.{insert}
-use Rattle.laws.proofs.Fill.{is-fits}
-use Rattle.path.specs.Address.{valid}
-use Rattle.path.specs.View.{steps, pathOf}
-use Rattle.path.proofs.Structs.{facts, view-path}
+use Rattle.path.specs.View.{steps}
+use Rattle.path.proofs.Structs.{facts}
 use Rattle.model.specs.Things as things
 use Rattle.model.specs.Things.{beforeAttribute}
 use Rattle.model.specs.Moves.{attributeIn}
@@ -17,6 +14,7 @@ use Rattle.tables.specs.declared.Attribute.{Attribute}
 use Rattle.tables.specs.declared.Attributes.{Attributes}
 use Rattle.tables.specs.View.{viewAttribute, viewAttributes, attributeOf, attributesOf, viewValue, noAttribute}
 use Rattle.tables.proofs.Rows.{value-back, value-there}
+use Rattle.moves.proofs.Keys.{path-valid}
 use Rattle.moves.proofs.attributes.paste_one.Statement.{statement}
 use Rattle.moves.proofs.attributes.paste_one.Tie as tie
 
@@ -37,7 +35,7 @@ insert-requires c κs =
       record {
         model = (steps (s .args .p), record { name = s .args .name; owner = a .owner; value = viewValue (a .value) });
         same = c .renamed .ensures ∙ (λ i. record { path = e i; name = s .args .name; owner = a .owner; value = w i });
-        fits = is-fits pathOf steps view-path (λ l. T (valid l)) (s .args .p) (s .pre .1);
+        fits = path-valid (s .pre .1);
       },
       s .pre .0,
       s .pre .2,

@@ -4,13 +4,11 @@ use mathlib.Core.Path.{_≡_, ap, sym, _∙_}
 use mathlib.Core.List.{_∷_, map, map-map}
 use Prim.Native.Nat.{ℕ, _≤_, _+_, _-_}
 use native.Mathlib.Omega.{arith}
-use lib.Dec.{T}
 use lib.ListN.{drop, getD}
 use Rattle.laws.specs.Sorted.{interleave, merge}
 use Rattle.laws.proofs.Fill.{Fills, held-each, held-next, row-end, is-fits}
-use Rattle.path.specs.Address.{valid}
-use Rattle.path.specs.View.{steps, pathOf}
-use Rattle.path.proofs.Structs.{facts, view-path}
+use Rattle.path.specs.View.{steps}
+use Rattle.path.proofs.Structs.{facts}
 use Rattle.model.specs.Things as things
 use Rattle.model.specs.Things.{Row, beforePermission}
 use Rattle.model.specs.Moves.{grantRow}
@@ -19,6 +17,7 @@ use Rattle.tables.specs.declared.Permission.{Permission}
 use Rattle.tables.specs.View.{PermissionSound, viewPermission, permissionOf, viewPermissions, permissionsOf, permissionsWith, blankPermission, noPermission}
 use Rattle.tables.proofs.Rows.{permissions-held, permission-same, view-permission, view-permissions}
 use Rattle.moves.specs.Room.{grantIn, renamed}
+use Rattle.moves.proofs.Keys.{path-valid}
 use Rattle.moves.proofs.Stored.{granted-at, begin-as, store, pass, resumed}
 use Rattle.moves.proofs.Merged.{inter-nil}
 use Rattle.moves.proofs.Kept.{renamed-merge, merged-left, merged-right}
@@ -122,7 +121,7 @@ granted-requires c κs = search needs
 permission-before-requires : tie.Need-permission-before-requires Inv-loop μ-loop
 permission-before-requires c κs =
     let e = c .before .before .before in (
-      record { model = new e; same = granted-is c; fits = is-fits pathOf steps view-path (λ l. T (valid l)) (start e .args .p) (start e .pre .0 .2) },
+      record { model = new e; same = granted-is c; fits = path-valid (start e .pre .0 .2) },
       row-right e,
     )
 
