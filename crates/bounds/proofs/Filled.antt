@@ -7,50 +7,46 @@ use native.Mathlib.Omega.{arith}
 use lib.Dec.{T, ltb}
 use lib.ListN.{length}
 use Rattle.laws.specs.Slots.{All, Is}
-use Rattle.laws.specs.Sorted.{StrictOrder, nil, step, insert}
+use Rattle.laws.specs.Sorted.{StrictOrder, nil, insertBy, insert}
 use Rattle.laws.specs.Order.{ltPair}
-use Rattle.laws.proofs.Fill.{is-seen, is-fits}
+use Rattle.laws.proofs.Fill.{is-seen}
 use Rattle.laws.proofs.Order.{ℕ-order}
 use Rattle.laws.proofs.Sorted.{insert-sorted}
 use Rattle.path.specs.declared.Path.{Path}
 use Rattle.path.specs.Address.{valid, before}
-use Rattle.path.specs.View.{steps, pathOf, PathSound}
-use Rattle.path.proofs.Structs.{view-path}
+use Rattle.path.specs.View.{steps, PathSound}
+use Rattle.path.proofs.Structs.{path-valid}
 use Rattle.model.specs.Things as things
 use Rattle.model.specs.Things.{Row}
-use Rattle.model.specs.Sound.{Fits}
 use Rattle.tables.specs.declared.Value.{Value}
 use Rattle.tables.specs.declared.Grant.{Grant}
 use Rattle.tables.specs.declared.Nodes.{Nodes}
 use Rattle.tables.specs.declared.Attributes.{Attributes}
 use Rattle.tables.specs.declared.Permissions.{Permissions}
-use Rattle.tables.specs.View.{viewValue, viewGrant, NodeSound, AttributeSound, PermissionSound, viewNodes, nodesOf, NodesSound, viewAttributes, attributesOf, AttributesSound, viewPermissions, permissionsOf, PermissionsSound, DossierFits}
+use Rattle.tables.specs.View.{viewValue, viewGrant, NodeSound, AttributeSound, PermissionSound, viewNodes, nodesOf, NodesSound, viewAttributes, attributesOf, AttributesSound, viewPermissions, permissionsOf, PermissionsSound, DossierFits, Fits}
 use Rattle.tables.proofs.Rows.{value-there, view-nodes, view-attributes, view-permissions}
 use Rattle.roundtrip.proofs.Orders.{attribute-order, ltNamed, named-order, row-order}
 
 -- ---- a row put in its place, of any list
 module _ {A : Type 0} (P : A → Type 0) (lt : A → A → Bool) where
-  step-all : (b c : Bool) (x y : A) (l r : List A) → P x → P y → All P l → All P r → All P (step b c x y l r)
-  step-all true c x y l r h k a s = (h, (k, a))
-  step-all false true x y l r h k a s = (k, s)
-  step-all false false x y l r h k a s = (k, a)
+  insertBy-all : (b c : Bool) (x y : A) (l r : List A) → P x → P y → All P l → All P r → All P (insertBy b c x y l r)
+  insertBy-all true c x y l r h k a s = (h, (k, a))
+  insertBy-all false true x y l r h k a s = (k, s)
+  insertBy-all false false x y l r h k a s = (k, a)
 
   insert-all : (x : A) (l : List A) → P x → All P l → All P (insert lt x l)
   insert-all x [] h a = (h, tt)
-  insert-all x (y ∷ l) h a = step-all (lt x y) (lt y x) x y l (insert lt x l) h (a .0) (a .1) (insert-all x l h (a .1))
+  insert-all x (y ∷ l) h a = insertBy-all (lt x y) (lt y x) x y l (insert lt x l) h (a .0) (a .1) (insert-all x l h (a .1))
 
 module _ {A : Type 0} (lt : A → A → Bool) where
-  step-length : (b c : Bool) (x y : A) (l r : List A) → length r ≤ length l + 1 → length (step b c x y l r) ≤ length (y ∷ l) + 1
-  step-length true c x y l r h = omega arith
-  step-length false true x y l r h = omega arith
-  step-length false false x y l r h = omega arith
+  insertBy-length : (b c : Bool) (x y : A) (l r : List A) → length r ≤ length l + 1 → length (insertBy b c x y l r) ≤ length (y ∷ l) + 1
+  insertBy-length true c x y l r h = omega arith
+  insertBy-length false true x y l r h = omega arith
+  insertBy-length false false x y l r h = omega arith
 
   insert-length : (x : A) (l : List A) → length (insert lt x l) ≤ length l + 1
   insert-length x [] = omega arith
-  insert-length x (y ∷ l) = step-length (lt x y) (lt y x) x y l (insert lt x l) (insert-length x l)
-
-pub valid-steps : {p : Path} → PathSound p → T (valid (steps p))
-valid-steps {p} h = is-fits pathOf steps view-path (λ l. T (valid l)) p h
+  insert-length x (y ∷ l) = insertBy-length (lt x y) (lt y x) x y l (insert lt x l) (insert-length x l)
 
 -- ---- any table
 module _ {P S : Type 0} (less : P → P → Bool) (o : StrictOrder less) (n : ℕ) (tableOf : List (Row P) → S) (view : S → List (Row P)) (count : S → ℕ)
@@ -73,7 +69,7 @@ module _ {P S : Type 0} (less : P → P → Bool) (o : StrictOrder less) (n : �
         same = e ∙ ap (λ m. tableOf (insert lt row m)) (is-seen tableOf view seen (Fits lt n) t h);
         fits = record {
           room = omega arith;
-          each = insert-all (λ r. T (valid (r .0))) lt row l (valid-steps v) (h .fits .each);
+          each = insert-all (λ r. T (valid (r .0))) lt row l (path-valid v) (h .fits .each);
           ascend = insert-sorted lt (row-order less o) row (h .fits .ascend);
         };
       }

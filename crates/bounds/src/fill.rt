@@ -5,6 +5,7 @@ ghost use Rattle.tables.specs.View.{NodesSound, AttributesSound, PermissionsSou
 use decide::clash;
 use decide::clash_in;
 use path::Path;
+use path::RawPath;
 use tables::Attribute;
 use tables::Attributes;
 use tables::Dossier;
@@ -26,14 +27,14 @@ use tables::ask::owner_in;
 pub fn at(len: u8, steps: [u8; 6]) -> Path
     ensures { λ r. ⌜ PathSound r ⌝ }
 {
-    let p = Path {
+    let p = RawPath {
         len: len,
         steps: steps,
     };
     if !path::is_valid(p) {
         return path::root();
     }
-    path::canonical(p)
+    path::path_of(p)
 }
 
 pub fn top() -> Path

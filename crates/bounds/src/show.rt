@@ -1,4 +1,6 @@
 // What is written: numbers, paths, rows, decisions.
+ghost use Rattle.path.specs.View.{PathSound};
+ghost use Rattle.tables.specs.View.{NodesSound, AttributesSound, PermissionsSound};
 use decide::Decision;
 use libc::STDOUT_FILENO;
 use path::Path;
@@ -65,18 +67,17 @@ pub fn span(s: Span) {
 // ---- paths
 
 // The steps with a dot between them; a stroke for the root.
-pub fn address(p: Path) {
-    let n = p.len as usize;
+pub fn address(p: Path)
+    requires { ⌜ PathSound p ⌝ }
+{
+    let n = path::size(p);
     if n == 0 {
         text(b"/");
         return;
     }
     let mut i: usize = 0;
-    while i < 6 {
-        if n <= i {
-            return;
-        }
-        step(i, p.steps[i]);
+    while i < n {
+        step(i, path::step_of(p, i));
         i += 1;
     }
 }
@@ -90,7 +91,9 @@ fn step(i: usize, s: u8) {
 
 // ---- rows
 
-fn node(a: Node) {
+fn node(a: Node)
+    requires { ⌜ PathSound (a .path) ⌝ }
+{
     text(b"node ");
     address(a.path);
     text(b" owner ");
@@ -98,13 +101,12 @@ fn node(a: Node) {
     text(b"\n");
 }
 
-pub fn nodes(t: Nodes) {
+pub fn nodes(t: Nodes)
+    requires { ⌜ NodesSound t ⌝ }
+{
     let n = t.count;
     let mut i: usize = 0;
-    while i < 64 {
-        if n <= i {
-            return;
-        }
+    while i < n {
         node(t.rows[i]);
         i += 1;
     }
@@ -132,7 +134,9 @@ fn pattern(x: f32) -> u32 {
     f32::to_bits(x)
 }
 
-fn attribute(a: Attribute) {
+fn attribute(a: Attribute)
+    requires { ⌜ PathSound (a .path) ⌝ }
+{
     text(b"attribute ");
     address(a.path);
     text(b" ");
@@ -145,13 +149,12 @@ fn attribute(a: Attribute) {
     text(b"\n");
 }
 
-pub fn attributes(t: Attributes) {
+pub fn attributes(t: Attributes)
+    requires { ⌜ AttributesSound t ⌝ }
+{
     let n = t.count;
     let mut i: usize = 0;
-    while i < 256 {
-        if n <= i {
-            return;
-        }
+    while i < n {
         attribute(t.rows[i]);
         i += 1;
     }
@@ -176,7 +179,9 @@ fn provisions(messages: u32, agreements: u32) {
     number(agreements as u64);
 }
 
-fn permission(a: Permission) {
+fn permission(a: Permission)
+    requires { ⌜ PathSound (a .path) ⌝ }
+{
     text(b"permission ");
     address(a.path);
     text(b" ");
@@ -186,13 +191,12 @@ fn permission(a: Permission) {
     text(b"\n");
 }
 
-pub fn permissions(t: Permissions) {
+pub fn permissions(t: Permissions)
+    requires { ⌜ PermissionsSound t ⌝ }
+{
     let n = t.count;
     let mut i: usize = 0;
-    while i < 128 {
-        if n <= i {
-            return;
-        }
+    while i < n {
         permission(t.rows[i]);
         i += 1;
     }

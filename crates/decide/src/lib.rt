@@ -18,6 +18,7 @@ use tables::ask::Found;
 use tables::ask::Owner;
 use tables::ask::attribute_in;
 use tables::ask::owner_in;
+use tables::place::object_before;
 
 // Who asks, in which role, when.
 pub struct Subject {
@@ -87,8 +88,8 @@ pub fn clash(g: Grant, h: Grant) -> bool
 }
 
 // All of a is in b.
-pub fn within(a: u32, b: u32) -> bool
-    ensures { λ r. ⌜ r ≡ model.within a b ⌝ }
+pub fn subset(a: u32, b: u32) -> bool
+    ensures { λ r. ⌜ r ≡ model.subset a b ⌝ }
 {
     a & b == a
 }
@@ -107,7 +108,7 @@ pub fn covers(s: Subject, g: Grant, c: Grant) -> bool
     ensures { λ r. ⌜ r ≡ model.covers (viewSubject s) (viewGrant g) (viewGrant c) ⌝ }
 {
     let users = (c.user == 0) | (c.user == g.user);
-    let provisions = within(c.messages, g.messages) & within(c.agreements, g.agreements);
+    let provisions = subset(c.messages, g.messages) & subset(c.agreements, g.agreements);
     concerns(s, g.action, c) & (users & (spans(c, g) & provisions))
 }
 
@@ -120,6 +121,16 @@ pub fn matched(t: Permissions, p: Path, name: u16, s: Subject, action: u8) -> De
 {
     let n = t.count;
     let mut i: usize = 0;
+    let mut hi = n;
+    while i < hi {
+        let mid = i + (hi - i) / 2;
+        let b = t.rows[mid];
+        if object_before(b.path, b.name, p, name) {
+            i = mid + 1;
+        } else {
+            hi = mid;
+        }
+    }
     while i < n {
         let a = t.rows[i];
         if (a.name == name) & is_same(a.path, p) {
@@ -129,7 +140,7 @@ pub fn matched(t: Permissions, p: Path, name: u16, s: Subject, action: u8) -> De
             }
             i += 1;
         } else {
-            i += 1;
+            return Decision::Denied;
         }
     }
     Decision::Denied
@@ -142,6 +153,16 @@ pub fn clash_in(t: Permissions, p: Path, name: u16, g: Grant) -> bool
 {
     let n = t.count;
     let mut i: usize = 0;
+    let mut hi = n;
+    while i < hi {
+        let mid = i + (hi - i) / 2;
+        let b = t.rows[mid];
+        if object_before(b.path, b.name, p, name) {
+            i = mid + 1;
+        } else {
+            hi = mid;
+        }
+    }
     while i < n {
         let a = t.rows[i];
         if (a.name == name) & is_same(a.path, p) {
@@ -150,7 +171,7 @@ pub fn clash_in(t: Permissions, p: Path, name: u16, g: Grant) -> bool
             }
             i += 1;
         } else {
-            i += 1;
+            return false;
         }
     }
     false
@@ -163,6 +184,16 @@ pub fn cover_in(t: Permissions, p: Path, name: u16, s: Subject, g: Grant) -> boo
 {
     let n = t.count;
     let mut i: usize = 0;
+    let mut hi = n;
+    while i < hi {
+        let mid = i + (hi - i) / 2;
+        let b = t.rows[mid];
+        if object_before(b.path, b.name, p, name) {
+            i = mid + 1;
+        } else {
+            hi = mid;
+        }
+    }
     while i < n {
         let a = t.rows[i];
         if (a.name == name) & is_same(a.path, p) {
@@ -171,7 +202,7 @@ pub fn cover_in(t: Permissions, p: Path, name: u16, s: Subject, g: Grant) -> boo
             }
             i += 1;
         } else {
-            i += 1;
+            return false;
         }
     }
     false

@@ -6,7 +6,7 @@ use mathlib.Core.List.{List, [], _∷_, map, map-map, map-id, Memᴰ·of-map}
 use Prim.Native.Nat.{ℕ, _<_}
 use native.Mathlib.Omega.{arith}
 use lib.Dec.{T, eqb, eqb→eq}
-use lib.ListN.{length-map}
+use lib.ListN.{getD, length-map}
 use borrow.Author.Tests.{ne-eqb}
 use Rattle.laws.specs.Slots.{All, pick}
 use Rattle.laws.specs.Sorted.{_∈_}
@@ -20,10 +20,11 @@ use Rattle.model.specs.Image.{there}
 use Rattle.model.specs.Moves.{grantRow, nodeAt, attributeAt, attributeObject, objectAt}
 use Rattle.model.specs.Sound.{Sound, SoundSingle, SoundClipboard}
 use Rattle.roundtrip.proofs.Checks.{there-map}
+use Rattle.tables.specs.declared.Attributes.{Attributes}
 use Rattle.tables.specs.declared.Permissions.{Permissions}
 use Rattle.tables.specs.declared.Clipboard.{Clipboard}
-use Rattle.tables.specs.View.{viewPermissions, permissionsOf, PermissionsSound, clipboardOf, ClipboardSound}
-use Rattle.tables.proofs.Rows.{view-permissions}
+use Rattle.tables.specs.View.{viewAttribute, attributesOf, noAttribute, viewPermissions, permissionsOf, PermissionsSound, clipboardOf, ClipboardSound}
+use Rattle.tables.proofs.Rows.{view-attribute, view-permissions}
 use Rattle.moves.specs.Room.{OneObject, NoObject, grantIn}
 use Rattle.moves.proofs.Kept.{object-less}
 
@@ -41,6 +42,11 @@ holds-single {c} h k = go (h .model) (h .same) (h .fits)
     go things.empty e s = absurd (let z : _≡_ {A = ℕ} 2 0 = sym k ∙ ap (λ (x : Clipboard). x .kind) e in omega arith)
     go (things.branch d) e s = absurd (let z : _≡_ {A = ℕ} 2 1 = sym k ∙ ap (λ (x : Clipboard). x .kind) e in omega arith)
     go (things.single a l) e s = record { attribute = a; permissions = l; same = e; fits = s }
+
+-- ---- its attribute, at the root's path
+pub cached-row : {t : Attributes} (a : things.Attribute) → t ≡ attributesOf (([], a) ∷ []) → viewAttribute (getD (t .rows) 0 noAttribute) ≡ ([], a)
+unfolding attributesOf
+cached-row a e = ap (λ (x : Attributes). viewAttribute (getD (x .rows) 0 noAttribute)) e ∙ view-attribute ([], a)
 
 -- ---- its permissions, at the root's path
 root-valid : (n : ℕ) (l : List things.Permission) → All (λ (r : Row (ℕ × things.Permission)). T (valid (r .0))) (map (grantRow [] n) l)

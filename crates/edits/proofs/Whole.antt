@@ -1,7 +1,6 @@
--- A sound dossier as its model sees it: no row of a branch is deeper than its nodes, and a value changes in one table. Assumes nothing.
-use mathlib.Core.Path.{_≡_, refl, sym, ap, subst}
+-- A sound dossier as its model sees it: no row of a branch is deeper than its nodes. Assumes nothing.
+use mathlib.Core.Path.{sym, ap, subst}
 use mathlib.Core.Bool.{Bool, true, false}
-use mathlib.Core.Option.{Option, none, some}
 use mathlib.Core.List.{List, [], _∷_, List·Memᴰ·not-nil, List·Memᴰ·cases-cons}
 use mathlib.Core.Logic.{⊎-elim}
 use Prim.Native.Nat.{ℕ, _+_, _≤_, max}
@@ -23,8 +22,7 @@ use Rattle.roundtrip.proofs.Found.{node-in, attribute-in}
 use Rattle.tables.specs.declared.Dossier.{Dossier}
 use Rattle.tables.specs.View.{viewDossier, dossierOf, DossierSound}
 use Rattle.tables.proofs.Rows.{view-dossier}
-use Rattle.moves.specs.Room.{Shallow, changedRow}
-use Rattle.edits.specs.Room.{withValue}
+use Rattle.moves.specs.Room.{Shallow}
 
 pub whole : (d : Dossier) → DossierSound d → Sound (viewDossier d)
 whole d h = is-fits dossierOf viewDossier view-dossier Sound d h
@@ -57,9 +55,3 @@ module _ (q : Address) (d : things.Dossier) (s : Sound d) (h : length q + deepes
 
   pub permissions-shallow : Shallow q (d .permissions)
   permissions-shallow r m = shallow-at (r .0) (object-node (r .0) (r .1 .0) d s (s .on-object r m))
-
--- ---- a value that was changed
-pub value-whole : (p : Address) (v : things.Value) (o : Option things.Attribute) (d : things.Dossier)
-    → withValue p v o d ≡ record { nodes = d .nodes; attributes = changedRow p v o (d .attributes); permissions = d .permissions }
-value-whole p v none d = refl
-value-whole p v (some a) d = refl

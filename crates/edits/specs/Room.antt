@@ -1,11 +1,11 @@
--- What is asked of a whole dossier: room for what is put in; and what becomes of it where a value is changed.
+-- What is asked of a whole dossier: room for what is put in.
 use mathlib.Core.Path.{_≡_}
-use mathlib.Core.Option.{Option, none, some}
+use mathlib.Core.Option.{none}
 use Prim.Native.Nat.{ℕ, _+_, _≤_, _<_}
 use lib.ListN.{length}
 use Rattle.path.specs.Address.{Address}
-use Rattle.model.specs.Things.{Value, Attribute, Dossier}
-use Rattle.model.specs.Moves.{attributeAt, deepest, changeValue}
+use Rattle.model.specs.Things.{Dossier}
+use Rattle.model.specs.Moves.{attributeAt, deepest}
 
 -- room for one more
 abbrev pub NodeRoom : Dossier → Type 0
@@ -30,8 +30,3 @@ pub record SingleRoom (p : Address) (n : ℕ) (c d : Dossier) : Type 0 where
   pub permissions : length (c .permissions) + length (d .permissions) ≤ 128
   pub named : 0 < n
   pub fresh : attributeAt p n d ≡ none
-
--- the value of an attribute that was looked for
-abbrev pub withValue : Address → Value → Option Attribute → Dossier → Dossier
-withValue p v none d = d
-withValue p v (some a) d = changeValue p a v d

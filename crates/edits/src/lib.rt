@@ -2,14 +2,14 @@
 ghost use mathlib.Core.Path.{_≡_};
 ghost use mathlib.Core.Option.{some};
 ghost use Prim.Native.Nat.{_<_};
+ghost use lib.ListN.{length};
 ghost use Rattle.path.specs.Address.{up};
 ghost use Rattle.path.specs.View.{steps, PathSound};
 ghost use Rattle.model.specs.Things as things;
 ghost use Rattle.model.specs.Moves as model;
-ghost use Rattle.tables.specs.View.{AttributeSound, ClipboardSound, DossierFits, DossierSound, clipboardOf, dossierOf, viewAttribute, viewAttributes, viewDossier, viewGrant, viewPermissions, viewValue};
+ghost use Rattle.tables.specs.View.{AttributeSound, ClipboardSound, DossierFits, DossierSound, clipboardOf, dossierOf, viewAttribute, viewAttributes, viewClipboard, viewDossier, viewGrant, viewPermissions, viewValue};
 ghost use Rattle.moves.specs.Room.{FreshAttribute, FreshPermission};
-ghost use Rattle.edits.specs.Cached.{PastedSingle};
-ghost use Rattle.edits.specs.Room.{AttributeRoom, NodeRoom, PermissionRoom, Room, SingleRoom, withValue};
+ghost use Rattle.edits.specs.Room.{AttributeRoom, NodeRoom, PermissionRoom, Room, SingleRoom};
 use moves::attributes;
 use moves::nodes;
 use moves::permissions;
@@ -79,7 +79,7 @@ pub fn copy_branch(d: Dossier, q: Path) -> Dossier
 
 // The branch c pasted at q, with its owners and permissions; there is room for it.
 pub fn paste_branch(c: Dossier, d: Dossier, q: Path) -> Dossier
-    requires { ⌜ DossierSound c × DossierSound d × PathSound q × (0 < q .len) × Room (steps q) (viewDossier c) (viewDossier d) ⌝ }
+    requires { ⌜ DossierSound c × DossierSound d × PathSound q × (0 < length (steps q)) × Room (steps q) (viewDossier c) (viewDossier d) ⌝ }
     ensures { λ r. ⌜ r ≡ dossierOf (model.pasteBranch (steps q) (viewDossier c) (viewDossier d)) ⌝ }
 {
     Dossier {
@@ -91,7 +91,7 @@ pub fn paste_branch(c: Dossier, d: Dossier, q: Path) -> Dossier
 
 // An empty node added at q, which belongs to the adding user; there is room for it.
 pub fn add_node(d: Dossier, q: Path, owner: u8) -> Dossier
-    requires { ⌜ DossierSound d × PathSound q × (0 < q .len) × NodeRoom (viewDossier d) ⌝ }
+    requires { ⌜ DossierSound d × PathSound q × (0 < length (steps q)) × NodeRoom (viewDossier d) ⌝ }
     ensures { λ r. ⌜ r ≡ dossierOf (model.addNode (steps q) owner (viewDossier d)) ⌝ }
 {
     let n = nodes::one(owner);
@@ -131,7 +131,7 @@ pub fn delete_attribute(d: Dossier, p: Path, name: u16) -> Dossier
 // The attribute of that name at p, if there is one, with another value; owner and permissions stay.
 pub fn change_value(d: Dossier, p: Path, name: u16, v: Value) -> Dossier
     requires { ⌜ DossierSound d × PathSound p ⌝ }
-    ensures { λ r. ⌜ r ≡ dossierOf (withValue (steps p) (viewValue v) (model.attributeAt (steps p) name (viewDossier d)) (viewDossier d)) ⌝ }
+    ensures { λ r. ⌜ r ≡ dossierOf (model.changeValue (steps p) name (viewValue v) (viewDossier d)) ⌝ }
 {
     let t = attributes::changed(d.attributes, p, name, v);
     let mut r = d;
@@ -212,7 +212,7 @@ pub fn copy_attribute(d: Dossier, a: Attribute) -> Clipboard
 // The cached attribute pasted under that name at p, with its value, owner and permissions; the name is not on the node yet, and there is room for it.
 pub fn paste_attribute(c: Clipboard, d: Dossier, p: Path, name: u16) -> Dossier
     requires { ⌜ ClipboardSound c × (c .kind ≡ 2) × DossierSound d × PathSound p × SingleRoom (steps p) name (viewDossier (c .held)) (viewDossier d) ⌝ }
-    ensures { λ r. ⌜ PastedSingle c (steps p) name (viewDossier d) r ⌝ }
+    ensures { λ r. ⌜ r ≡ dossierOf (model.pastedAttribute (steps p) name (viewDossier d) (viewClipboard c)) ⌝ }
 {
     let h = c.held;
     let t = attributes::paste_one(h.attributes, d.attributes, p, name);

@@ -2,6 +2,7 @@
 ghost use Rattle.path.specs.View.{PathSound};
 use libc::STDOUT_FILENO;
 use path::Path;
+use path::RawPath;
 
 fn main() {
     example1();
@@ -25,11 +26,11 @@ fn example1() {
 fn example2() {
     let q = at(2, [1, 2, 0, 0, 0, 0]);
     text(b"2. Same: ");
-    address(path::path_up(at(1, [1, 0, 0, 0, 0, 0]), q));
+    address(raised(at(1, [1, 0, 0, 0, 0, 0]), q));
     text(b", ");
-    address(path::path_up(at(2, [1, 1, 0, 0, 0, 0]), q));
+    address(raised(at(2, [1, 1, 0, 0, 0, 0]), q));
     text(b" and ");
-    address(path::path_up(at(2, [2, 2, 0, 0, 0, 0]), q));
+    address(raised(at(2, [2, 2, 0, 0, 0, 0]), q));
     text(b" stay.\n");
 }
 
@@ -51,7 +52,25 @@ fn example3() {
 fn added(p: Path, q: Path)
     requires { ⌜ PathSound p × PathSound q ⌝ }
 {
-    told(p, path::path_up(p, q));
+    told(p, raised(p, q));
+}
+
+// Where p stands after an add at q, if the step that is raised stays a step.
+fn raised(p: Path, q: Path) -> Path
+    requires { ⌜ PathSound p × PathSound q ⌝ }
+    ensures { λ r. ⌜ PathSound r ⌝ }
+{
+    let n = path::size(q);
+    if n == 0 {
+        return p;
+    }
+    if path::size(p) < n {
+        return p;
+    }
+    if 32 <= path::step_of(p, n - 1) {
+        return p;
+    }
+    path::path_up(p, q)
 }
 
 fn deleted(p: Path, q: Path)
@@ -67,7 +86,9 @@ fn deleted(p: Path, q: Path)
 }
 
 // Writes that p stays, or the path that it becomes.
-fn told(p: Path, r: Path) {
+fn told(p: Path, r: Path)
+    requires { ⌜ PathSound p × PathSound r ⌝ }
+{
     address(p);
     if path::key(p) == path::key(r) {
         text(b" stays");
@@ -83,25 +104,24 @@ fn told(p: Path, r: Path) {
 fn at(len: u8, steps: [u8; 6]) -> Path
     ensures { λ r. ⌜ PathSound r ⌝ }
 {
-    let p = Path {
+    let p = RawPath {
         len: len,
         steps: steps,
     };
     if !path::is_valid(p) {
         return path::root();
     }
-    path::canonical(p)
+    path::path_of(p)
 }
 
 // Writes the steps with a dot between them.
-fn address(p: Path) {
-    let n = p.len as usize;
+fn address(p: Path)
+    requires { ⌜ PathSound p ⌝ }
+{
+    let n = path::size(p);
     let mut i: usize = 0;
-    while i < 6 {
-        if n <= i {
-            return;
-        }
-        step(i, p.steps[i]);
+    while i < n {
+        step(i, path::step_of(p, i));
         i += 1;
     }
 }

@@ -6,7 +6,7 @@ use mathlib.Core.Option.{Option, none, some, Option·some-injective, Option·non
 use mathlib.Core.List.{List, [], _∷_, List·Memᴰ·head, List·Memᴰ·tail, List·Memᴰ·not-nil, List·Memᴰ·cases-cons, Memᴰ·cast, map, Memᴰ·of-map}
 use lib.Dec.{T}
 use Rattle.laws.specs.Slots.{pick}
-use Rattle.laws.specs.Sorted.{_∈_, StrictOrder, Sorted, nil, cons, Same, step, insert, merge, interleaveOne, interleave, Disjoint, push, move, Monotone}
+use Rattle.laws.specs.Sorted.{_∈_, StrictOrder, Sorted, nil, cons, Same, insertBy, insert, merge, interleaveOne, interleave, Disjoint, push, move, Monotone}
 
 module _ {A : Type 0} (lt : A → A → Bool) (o : StrictOrder lt) where
   -- heads of two sorted lists with the same members
@@ -31,53 +31,53 @@ module _ {A : Type 0} (lt : A → A → Bool) (o : StrictOrder lt) where
 
 -- ---- insert and merge
 module _ {A : Type 0} (lt : A → A → Bool) (o : StrictOrder lt) where
-  step-old : (b c : Bool) (x y z : A) (l r : List A) → (z ∈ l → z ∈ r) → z ∈ y ∷ l → z ∈ step b c x y l r
-  step-old true c x y z l r f h = List·Memᴰ·tail h
-  step-old false true x y z l r f (List·Memᴰ·head e) = List·Memᴰ·head e
-  step-old false true x y z l r f (List·Memᴰ·tail h) = List·Memᴰ·tail (f h)
-  step-old false false x y z l r f h = h
+  insertBy-old : (b c : Bool) (x y z : A) (l r : List A) → (z ∈ l → z ∈ r) → z ∈ y ∷ l → z ∈ insertBy b c x y l r
+  insertBy-old true c x y z l r f h = List·Memᴰ·tail h
+  insertBy-old false true x y z l r f (List·Memᴰ·head e) = List·Memᴰ·head e
+  insertBy-old false true x y z l r f (List·Memᴰ·tail h) = List·Memᴰ·tail (f h)
+  insertBy-old false false x y z l r f h = h
 
-  step-new : (b c : Bool) (x y : A) (l r : List A) → (T (not b) → T (not c) → x ≡ y) → x ∈ r → x ∈ step b c x y l r
-  step-new true c x y l r e h = List·Memᴰ·head refl
-  step-new false true x y l r e h = List·Memᴰ·tail h
-  step-new false false x y l r e h = List·Memᴰ·head (e tt tt)
+  insertBy-new : (b c : Bool) (x y : A) (l r : List A) → (T (not b) → T (not c) → x ≡ y) → x ∈ r → x ∈ insertBy b c x y l r
+  insertBy-new true c x y l r e h = List·Memᴰ·head refl
+  insertBy-new false true x y l r e h = List·Memᴰ·tail h
+  insertBy-new false false x y l r e h = List·Memᴰ·head (e tt tt)
 
-  step-back : (b c : Bool) (x y z : A) (l r : List A) → (z ∈ r → (z ≡ x) ⊎ (z ∈ l)) → z ∈ step b c x y l r → (z ≡ x) ⊎ (z ∈ y ∷ l)
-  step-back true c x y z l r f h = List·Memᴰ·cases-cons h
-  step-back false true x y z l r f (List·Memᴰ·head e) = inr (List·Memᴰ·head e)
-  step-back false true x y z l r f (List·Memᴰ·tail h) = ⊎-elim (λ e. inl e) (λ k. inr (List·Memᴰ·tail k)) (f h)
-  step-back false false x y z l r f h = inr h
+  insertBy-back : (b c : Bool) (x y z : A) (l r : List A) → (z ∈ r → (z ≡ x) ⊎ (z ∈ l)) → z ∈ insertBy b c x y l r → (z ≡ x) ⊎ (z ∈ y ∷ l)
+  insertBy-back true c x y z l r f h = List·Memᴰ·cases-cons h
+  insertBy-back false true x y z l r f (List·Memᴰ·head e) = inr (List·Memᴰ·head e)
+  insertBy-back false true x y z l r f (List·Memᴰ·tail h) = ⊎-elim (λ e. inl e) (λ k. inr (List·Memᴰ·tail k)) (f h)
+  insertBy-back false false x y z l r f h = inr h
 
   pub insert-old : (x z : A) (l : List A) → z ∈ l → z ∈ insert lt x l
   insert-old x z [] h = absurd (List·Memᴰ·not-nil h)
-  insert-old x z (y ∷ l) h = step-old (lt x y) (lt y x) x y z l (insert lt x l) (insert-old x z l) h
+  insert-old x z (y ∷ l) h = insertBy-old (lt x y) (lt y x) x y z l (insert lt x l) (insert-old x z l) h
 
   pub insert-new : (x : A) (l : List A) → x ∈ insert lt x l
   insert-new x [] = List·Memᴰ·head refl
-  insert-new x (y ∷ l) = step-new (lt x y) (lt y x) x y l (insert lt x l) (o .conn x y) (insert-new x l)
+  insert-new x (y ∷ l) = insertBy-new (lt x y) (lt y x) x y l (insert lt x l) (o .conn x y) (insert-new x l)
 
   pub insert-back : (x z : A) (l : List A) → z ∈ insert lt x l → (z ≡ x) ⊎ (z ∈ l)
   insert-back x z [] h = List·Memᴰ·cases-cons h
-  insert-back x z (y ∷ l) h = step-back (lt x y) (lt y x) x y z l (insert lt x l) (insert-back x z l) h
+  insert-back x z (y ∷ l) h = insertBy-back (lt x y) (lt y x) x y z l (insert lt x l) (insert-back x z l) h
 
-  step-sorted : (b c : Bool) (x y : A) (l r : List A) → (T b → T (lt x y)) → (T c → T (lt y x)) → ((z : A) → z ∈ r → (z ≡ x) ⊎ (z ∈ l))
-      → ((z : A) → z ∈ l → T (lt y z)) → Sorted lt l → Sorted lt r → Sorted lt (step b c x y l r)
-  step-sorted true c x y l r f g k by sl sr = cons below (cons by sl)
+  insertBy-sorted : (b c : Bool) (x y : A) (l r : List A) → (T b → T (lt x y)) → (T c → T (lt y x)) → ((z : A) → z ∈ r → (z ≡ x) ⊎ (z ∈ l))
+      → ((z : A) → z ∈ l → T (lt y z)) → Sorted lt l → Sorted lt r → Sorted lt (insertBy b c x y l r)
+  insertBy-sorted true c x y l r f g k by sl sr = cons below (cons by sl)
     where
       below : (z : A) → z ∈ y ∷ l → T (lt x z)
       below z (List·Memᴰ·head e) = subst (λ (w : A). T (lt x w)) (sym e) (f tt)
       below z (List·Memᴰ·tail h) = o .trans x y z (f tt) (by z h)
-  step-sorted false true x y l r f g k by sl sr = cons (λ z h. below z (k z h)) sr
+  insertBy-sorted false true x y l r f g k by sl sr = cons (λ z h. below z (k z h)) sr
     where
       below : (z : A) → (z ≡ x) ⊎ (z ∈ l) → T (lt y z)
       below z (inl e) = subst (λ (w : A). T (lt y w)) (sym e) (g tt)
       below z (inr h) = by z h
-  step-sorted false false x y l r f g k by sl sr = cons by sl
+  insertBy-sorted false false x y l r f g k by sl sr = cons by sl
 
   pub insert-sorted : (x : A) {l : List A} → Sorted lt l → Sorted lt (insert lt x l)
   insert-sorted x nil = cons (λ z h. absurd (List·Memᴰ·not-nil h)) nil
   insert-sorted x (cons {x = y} {l} by sl) =
-      step-sorted (lt x y) (lt y x) x y l (insert lt x l) (λ t. t) (λ t. t) (λ z. insert-back x z l) by sl (insert-sorted x sl)
+      insertBy-sorted (lt x y) (lt y x) x y l (insert lt x l) (λ t. t) (λ t. t) (λ z. insert-back x z l) by sl (insert-sorted x sl)
 
   -- merge
   pub merge-sorted : (xs : List A) {l : List A} → Sorted lt l → Sorted lt (merge lt xs l)
@@ -109,23 +109,23 @@ module _ {A : Type 0} (lt : A → A → Bool) (o : StrictOrder lt) where
 
 -- ---- interleave
 module _ {A : Type 0} (lt : A → A → Bool) (o : StrictOrder lt) where
-  step-first : (b c : Bool) (x y : A) (l r : List A) → T b → step b c x y l r ≡ x ∷ y ∷ l
-  step-first true c x y l r t = refl
-  step-first false c x y l r t = absurd t
+  insertBy-first : (b c : Bool) (x y : A) (l r : List A) → T b → insertBy b c x y l r ≡ x ∷ y ∷ l
+  insertBy-first true c x y l r t = refl
+  insertBy-first false c x y l r t = absurd t
 
-  step-later : (b c : Bool) (x y : A) (l r : List A) → (T b → ⊥) → T c → step b c x y l r ≡ y ∷ r
-  step-later true c x y l r n t = absurd (n tt)
-  step-later false true x y l r n t = refl
-  step-later false false x y l r n t = absurd t
+  insertBy-later : (b c : Bool) (x y : A) (l r : List A) → (T b → ⊥) → T c → insertBy b c x y l r ≡ y ∷ r
+  insertBy-later true c x y l r n t = absurd (n tt)
+  insertBy-later false true x y l r n t = refl
+  insertBy-later false false x y l r n t = absurd t
 
   -- an element less than all goes first
   pub insert-first : (x : A) (l : List A) → ((z : A) → z ∈ l → T (lt x z)) → insert lt x l ≡ x ∷ l
   insert-first x [] h = refl
-  insert-first x (y ∷ l) h = step-first (lt x y) (lt y x) x y l (insert lt x l) (h y (List·Memᴰ·head refl))
+  insert-first x (y ∷ l) h = insertBy-first (lt x y) (lt y x) x y l (insert lt x l) (h y (List·Memᴰ·head refl))
 
   -- one that is more than the first goes behind it
   pub insert-later : (x y : A) (l : List A) → T (lt y x) → insert lt x (y ∷ l) ≡ y ∷ insert lt x l
-  insert-later x y l t = step-later (lt x y) (lt y x) x y l (insert lt x l) (λ s. o .irr x (o .trans x y x s t)) t
+  insert-later x y l t = insertBy-later (lt x y) (lt y x) x y l (insert lt x l) (λ s. o .irr x (o .trans x y x s t)) t
 
   pub merge-later : (k : List A) (b : A) (l : List A) → ((z : A) → z ∈ k → T (lt b z)) → merge lt k (b ∷ l) ≡ b ∷ merge lt k l
   merge-later [] b l h = refl

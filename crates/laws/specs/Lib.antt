@@ -1,3 +1,4 @@
 pub mod Slots
 pub mod Sorted
 pub mod Order
+pub mod Search

@@ -27,15 +27,15 @@ Same {A} l m = ((x : A) → x ∈ l → x ∈ m) × ((x : A) → x ∈ m → x �
 
 module _ {A : Type 0} where
   -- the tests are arguments, so that laws are by cases on two Bools: x < y, y < x, or neither
-  abbrev pub step : Bool → Bool → A → A → List A → List A → List A
-  step true c x y l r = x ∷ y ∷ l
-  step false true x y l r = y ∷ r
-  step false false x y l r = y ∷ l
+  abbrev pub insertBy : Bool → Bool → A → A → List A → List A → List A
+  insertBy true c x y l r = x ∷ y ∷ l
+  insertBy false true x y l r = y ∷ r
+  insertBy false false x y l r = y ∷ l
 
   -- x in its place; an element that is already there is kept once
   abbrev pub insert : (A → A → Bool) → A → List A → List A
   insert lt x [] = x ∷ []
-  insert lt x (y ∷ l) = step (lt x y) (lt y x) x y l (insert lt x l)
+  insert lt x (y ∷ l) = insertBy (lt x y) (lt y x) x y l (insert lt x l)
 
   -- each of xs in its place
   abbrev pub merge : (A → A → Bool) → List A → List A → List A

@@ -108,8 +108,8 @@ clashAny p (q ∷ l) = pick (clash p q) true (clashAny p l)
 
 -- ---- delegate
 -- all of a is in b
-abbrev pub within : ℕ → ℕ → Bool
-within a b = eqb (bitAnd a b) a
+abbrev pub subset : ℕ → ℕ → Bool
+subset a b = eqb (bitAnd a b) a
 
 -- "contain the new interval"
 abbrev pub spans : Permission → Permission → Bool
@@ -124,7 +124,7 @@ containsUsers one new = eqb one 0 || eqb one new
 abbrev pub covers : Subject → Permission → Permission → Bool
 covers s p c =
     concerns s (p .action) c
-    && (containsUsers (c .user) (p .user) && (spans c p && (within (c .messages) (p .messages) && within (c .agreements) (p .agreements))))
+    && (containsUsers (c .user) (p .user) && (spans c p && (subset (c .messages) (p .messages) && subset (c .agreements) (p .agreements))))
 
 abbrev pub coverAny : Subject → Permission → List Permission → Bool
 coverAny s p [] = false

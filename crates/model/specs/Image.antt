@@ -8,7 +8,7 @@ use lib.Dec.{eqb, leb, ltb}
 use lib.ListN.{length, take, drop, getD, replicate}
 use mir.Syntax.{w64}
 use mir.Val.{toZ, ofZ}
-use Rattle.laws.specs.Slots.{pick, slots}
+use Rattle.laws.specs.Slots.{pick, slots, sameBytes}
 use Rattle.laws.specs.Sorted.{insert}
 use Rattle.laws.specs.Order.{ltList}
 use Rattle.path.specs.Address.{Address, valid, parent, last, child}
@@ -95,12 +95,6 @@ inRange (nodeRecord r) = valid (r .0) && userGood (r .1)
 inRange (attributeRecord r) = valid (r .0) && (nameGood (r .1 .name) && (userGood (r .1 .owner) && valueGood (r .1 .value)))
 inRange (permissionRecord r) = valid (r .0) && (leb (r .1 .0) 65535 && permissionGood (r .1 .0) (r .1 .1))
 
-abbrev pub sameBytes : List ℕ → List ℕ → Bool
-sameBytes [] [] = true
-sameBytes [] (y ∷ m) = false
-sameBytes (x ∷ l) [] = false
-sameBytes (x ∷ l) (y ∷ m) = eqb x y && sameBytes l m
-
 -- a record in which every field is in its range and every byte is what these fields save as
 abbrev pub decode : List ℕ → Option Record
 decode b = pick (inRange (parse b) && sameBytes (encode (parse b)) b) (some (parse b)) none
@@ -108,7 +102,7 @@ decode b = pick (inRange (parse b) && sameBytes (encode (parse b)) b) (some (par
 -- ---- a record "taken with those before it", on what an editor finds
 -- "A non-root node needs its parent and its left sibling earlier", "no second record for one node", "no bound passed"
 abbrev pub nodeFits : Address → Bool → Bool → Bool → ℕ → Bool
-nodeFits p here above beside nodes = not here && ((isRoot p || (above && (eqb (last p) 1 || beside))) && ltb nodes 64)
+nodeFits p here above leftThere nodes = not here && ((isRoot p || (above && (eqb (last p) 1 || leftThere))) && ltb nodes 64)
 
 -- "an attribute needs its node", "no second record for one .. attribute", "no bound passed"
 abbrev pub attributeFits : Bool → Bool → ℕ → ℕ → Bool

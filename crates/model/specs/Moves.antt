@@ -10,7 +10,7 @@ use lib.ListN.{length}
 use Rattle.laws.specs.Slots.{pick}
 use Rattle.laws.specs.Sorted.{insert, merge, move}
 use Rattle.path.specs.Address.{Address, same, up, down, off, on}
-use Rattle.model.specs.Things.{Value, Attribute, Permission, Row, Dossier, bare, beforeNode, beforeAttribute, beforePermission}
+use Rattle.model.specs.Things.{Value, Attribute, Permission, Row, Dossier, Clipboard, empty, branch, single, bare, beforeNode, beforeAttribute, beforePermission}
 use Rattle.model.specs.Decide.{Object}
 
 -- ---- rows
@@ -140,14 +140,17 @@ deleteAttribute p n d =
       permissions = move (keep (otherObject p n)) (d .permissions);
     }
 
+-- the value of an attribute that was looked for; where there is none nothing changes (a request is refused 3 before that)
+abbrev pub changedRow : Address → Value → Option Attribute → List (Row Attribute) → List (Row Attribute)
+changedRow p v none l = l
+changedRow p v (some a) l = insert beforeAttribute (p, record { name = a .name; owner = a .owner; value = v }) (move (keep (otherAttribute p (a .name))) l)
+
+abbrev pub changedIn : Address → ℕ → Value → List (Row Attribute) → List (Row Attribute)
+changedIn p n v l = changedRow p v (attributeIn p n l) l
+
 -- "Changing a value keeps owner and permissions"
-abbrev pub changeValue : Address → Attribute → Value → Dossier → Dossier
-changeValue p a v d =
-    record {
-      nodes = d .nodes;
-      attributes = insert beforeAttribute (p, record { name = a .name; owner = a .owner; value = v }) (move (keep (otherAttribute p (a .name))) (d .attributes));
-      permissions = d .permissions;
-    }
+abbrev pub changeValue : Address → ℕ → Value → Dossier → Dossier
+changeValue p n v d = record { nodes = d .nodes; attributes = changedIn p n v (d .attributes); permissions = d .permissions }
 
 -- a permission as a row
 abbrev pub grantRow : Address → ℕ → Permission → Row (ℕ × Permission)
@@ -161,6 +164,24 @@ pasteAttribute p n a l d =
       attributes = insert beforeAttribute (p, record { name = n; owner = a .owner; value = a .value }) (d .attributes);
       permissions = merge beforePermission (map (grantRow p n) l) (d .permissions);
     }
+
+-- ---- the clipboard
+-- an attribute that was looked for, with its permissions, on the clipboard; where there is none it stays (a request is refused 3 before that)
+abbrev pub copied : Address → ℕ → Dossier → Clipboard → Option Attribute → Clipboard
+copied p n d c none = c
+copied p n d c (some a) = single a (permissionsFor p n d)
+
+-- the cached branch pasted; where none is cached nothing changes (a request is refused 5 before that)
+abbrev pub pastedBranch : Address → Dossier → Clipboard → Dossier
+pastedBranch p d empty = d
+pastedBranch p d (branch c) = pasteBranch p c d
+pastedBranch p d (single a l) = d
+
+-- the cached attribute pasted; where none is cached nothing changes (a request is refused 5 before that)
+abbrev pub pastedAttribute : Address → ℕ → Dossier → Clipboard → Dossier
+pastedAttribute p n d empty = d
+pastedAttribute p n d (branch c) = d
+pastedAttribute p n d (single a l) = pasteAttribute p n a l d
 
 -- ---- permissions
 abbrev pub sameTime : ℤ → ℤ → Bool

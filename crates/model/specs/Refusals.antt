@@ -11,7 +11,7 @@ use lib.ListN.{length}
 use Rattle.laws.specs.Slots.{pick}
 use Rattle.path.specs.Address.{Address, valid, last}
 use Rattle.model.specs.Things.{Value, whole, reading, Permission}
-use Rattle.model.specs.Decide.{Subject, Object, Provisions, nothing, joined, readBy, changeBy, ownBy, delegateBy, given, clashAny, coverAny, within, members}
+use Rattle.model.specs.Decide.{Subject, Object, Provisions, nothing, joined, readBy, changeBy, ownBy, delegateBy, given, clashAny, coverAny, subset, members}
 use Rattle.model.specs.Moves.{holds}
 
 -- "Each guarded request carries dossier, role, user, time and its operands"
@@ -220,9 +220,13 @@ withRows attributes permissions f =
       permissions = f .sizes .permissions + permissions;
     }
 
+-- what adds nothing is never judged for room
+abbrev pub noneAdded : Totals
+noneAdded = record { nodes = 0; depth = 0; children = 0; attributes = 0; onNode = 0; permissions = 0 }
+
 abbrev pub totals : Request → Found → Cached → Totals
 totals r f c =
-    choose (r .number) (withRows 0 0 f)
+    choose (r .number) noneAdded
     ((3 ∷ [], withBranch (record { nodes = 1; attributes = 0; permissions = 0 }) 0 r f)
     ∷ (7 ∷ [], withBranch (c .sizes) (c .height) r f)
     ∷ (8 ∷ [], withRows 1 0 f)
@@ -267,20 +271,20 @@ pub record Standing : Type 0 where
   pub entries : ℕ
 
 abbrev pub unsigned : Provisions → Standing → Bool
-unsigned p s = not (within (p .agreements) (s .signed))
+unsigned p s = not (subset (p .agreements) (s .signed))
 
 abbrev pub logFull : Provisions → Standing → Bool
 logFull p s = ltb 256 (s .entries + length (members (p .messages)))
 
 -- ---- the table
 -- "Tested in this order ..; the first that applies is given"
-abbrev pub first : List (ℕ × Bool) → Option ℕ
-first [] = none
-first (row ∷ l) = pick (row .1) (some (row .0)) (first l)
+abbrev pub firstThat : List (ℕ × Bool) → Option ℕ
+firstThat [] = none
+firstThat (row ∷ l) = pick (row .1) (some (row .0)) (firstThat l)
 
 abbrev pub refusal : Request → Found → Cached → Standing → Option ℕ
 refusal r f c s =
-    first
+    firstThat
     ((1, badOperand r)
     ∷ (2, atRoot r)
     ∷ (3, absent r f)

@@ -12,8 +12,8 @@ use Rattle.path.specs.Address.{Address, valid, parent}
 use Rattle.model.specs.Things.{Value, Attribute, Dossier, Clipboard, empty, branch, single, State, bare, fresh}
 use Rattle.model.specs.Decide.{Subject, Object, Provisions, joined, readBy, changeBy, given, members}
 use Rattle.model.specs.Moves as moves
-use Rattle.model.specs.Moves.{nodeAt, attributeAt, attributeObject, objectAt, permissionsFor, namesOn, childCount, deepest}
-use Rattle.model.specs.Refusals.{Request, choose, Sizes, Found, Cached, missing, between, userGood, roleGood, timeGood, granted, provisions, first, Standing, refusal}
+use Rattle.model.specs.Moves.{nodeAt, attributeAt, attributeObject, objectAt, namesOn, childCount, deepest}
+use Rattle.model.specs.Refusals.{Request, choose, Sizes, Found, Cached, missing, between, userGood, roleGood, timeGood, granted, provisions, firstThat, Standing, refusal}
 use Rattle.model.specs.Image as images
 use Rattle.model.specs.Image.{Loaded, bad, good, bytes4, noRecords}
 
@@ -43,7 +43,7 @@ pub data Call : Type 0 where
 pub data Answer : Type 0 where
   done : Answer
   contents : List ℕ → ℕ → Answer
-  value : Value → Answer
+  valueRead : Value → Answer
   wrote : ℕ → Answer
   refused : ℕ → Answer
   badRecord : ℕ → Answer
@@ -52,7 +52,7 @@ pub data Answer : Type 0 where
 abbrev pub numberOf : Answer → ℕ
 numberOf done = 0
 numberOf (contents names children) = 0
-numberOf (value v) = 0
+numberOf (valueRead v) = 0
 numberOf (wrote n) = 0
 numberOf (refused n) = n
 numberOf (badRecord n) = 12
@@ -61,7 +61,7 @@ numberOf (badRecord n) = 12
 abbrev pub recordOf : Answer → ℕ
 recordOf done = 0
 recordOf (contents names children) = 0
-recordOf (value v) = 0
+recordOf (valueRead v) = 0
 recordOf (wrote n) = 0
 recordOf (refused n) = 0
 recordOf (badRecord n) = n
@@ -150,36 +150,17 @@ cached (single a l) = record { branch = false; attribute = true; sizes = record 
 abbrev pub standing : Request → List ℕ → List (ℕ × ℕ) → Standing
 standing r rows log = record { signed = signedBy (r .user) rows; entries = length log }
 
--- the attribute with its permissions, on the clipboard
-abbrev pub copied : Request → Dossier → Clipboard → Option Attribute → Clipboard
-copied r d c none = c
-copied r d c (some a) = single a (permissionsFor (r .path) (r .name) d)
-
-abbrev pub changed : Request → Dossier → Option Attribute → Dossier
-changed r d none = d
-changed r d (some a) = moves.changeValue (r .path) a (r .value) d
-
-abbrev pub pastedBranch : Request → Dossier → Clipboard → Dossier
-pastedBranch r d empty = d
-pastedBranch r d (branch c) = moves.pasteBranch (r .path) c d
-pastedBranch r d (single a l) = d
-
-abbrev pub pastedAttribute : Request → Dossier → Clipboard → Dossier
-pastedAttribute r d empty = d
-pastedAttribute r d (branch c) = d
-pastedAttribute r d (single a l) = moves.pasteAttribute (r .path) (r .name) a l d
-
 -- the dossier afterwards
 abbrev pub edited : Request → Dossier → Clipboard → Dossier
 edited r =
     choose (r .number) (λ d c. d)
     ((3 ∷ [], λ d c. moves.addNode (r .path) (r .user) d)
     ∷ (4 ∷ 6 ∷ [], λ d c. moves.deleteBranch (r .path) d)
-    ∷ (7 ∷ [], λ d c. pastedBranch r d c)
+    ∷ (7 ∷ [], λ d c. moves.pastedBranch (r .path) d c)
     ∷ (8 ∷ [], λ d c. moves.withAttribute (r .path) (record { name = r .name; owner = r .user; value = r .value }) d)
     ∷ (9 ∷ 12 ∷ [], λ d c. moves.deleteAttribute (r .path) (r .name) d)
-    ∷ (10 ∷ [], λ d c. changed r d (attributeAt (r .path) (r .name) d))
-    ∷ (13 ∷ [], λ d c. pastedAttribute r d c)
+    ∷ (10 ∷ [], λ d c. moves.changeValue (r .path) (r .name) (r .value) d)
+    ∷ (13 ∷ [], λ d c. moves.pastedAttribute (r .path) (r .name) d c)
     ∷ (14 ∷ 16 ∷ [], λ d c. moves.addPermission (r .path) (r .name) (r .permission) d)
     ∷ (15 ∷ [], λ d c. moves.deletePermission (r .path) (r .name) (r .permission) d)
     ∷ [])
@@ -189,12 +170,13 @@ abbrev pub clipped : Request → Dossier → Clipboard → Clipboard
 clipped r =
     choose (r .number) (λ d c. c)
     ((5 ∷ 6 ∷ [], λ d c. branch (moves.copyBranch (r .path) d))
-    ∷ (11 ∷ 12 ∷ [], λ d c. copied r d c (attributeAt (r .path) (r .name) d))
+    ∷ (11 ∷ 12 ∷ [], λ d c. moves.copied (r .path) (r .name) d c (attributeAt (r .path) (r .name) d))
     ∷ [])
 
+-- the value of an attribute that was looked for; where there is none there is none to give (a request is refused 3 before that)
 abbrev pub valueOf : Option Attribute → Answer
 valueOf none = done
-valueOf (some a) = value (a .value)
+valueOf (some a) = valueRead (a .value)
 
 -- "names, ascending, and child count, all in the answer"; "value"
 abbrev pub answered : Request → Found → Option Attribute → Answer
@@ -247,7 +229,7 @@ askBytes p = bytes4 (p .messages) ++ bytes4 (p .agreements)
 -- "It returns 0 or a refusal, tested 1, 12 (here without a record number), 3, 6, 9": whether the image is bad, the object, and what is granted on it
 abbrev pub answerAsk : List ℕ → Question → List ℕ → Bool → Option Object → Option Provisions → Reply
 answerAsk image q buffer badImage o may =
-    elim (first ((1, badQuestion q) ∷ (12, badImage) ∷ (3, missing o) ∷ (6, missing may) ∷ (9, ltb (length buffer) 8) ∷ [])) [
+    elim (firstThat ((1, badQuestion q) ∷ (12, badImage) ∷ (3, missing o) ∷ (6, missing may) ∷ (9, ltb (length buffer) 8) ∷ [])) [
       | none ↦ reply done (image ∷ written (askBytes (provisions may)) buffer ∷ [])
       | some n ↦ reply (refused n) (image ∷ buffer ∷ [])
     ]
@@ -267,18 +249,18 @@ orRefused (some n) old s a = (old, reply (refused n) [])
 
 unfoldable pub step : State → Call → State × Reply
 step s start = (fresh, reply done [])
-step s (new n owner) = orRefused (first ((1, not (dossierGood n && userGood owner)) ∷ [])) s (withDossier n (bare owner) s) done
+step s (new n owner) = orRefused (firstThat ((1, not (dossierGood n && userGood owner)) ∷ [])) s (withDossier n (bare owner) s) done
 step s (load n image) =
-    elim (first ((1, not (dossierGood n)) ∷ [])) [
+    elim (firstThat ((1, not (dossierGood n)) ∷ [])) [
       | none ↦ loaded s n image (images.load image)
       | some k ↦ (s, reply (refused k) (image ∷ []))
     ]
 step s (save n buffer) =
-    let bytes = images.save (dossier n s) in writes (first ((1, not (dossierGood n)) ∷ (9, short bytes buffer) ∷ [])) s s bytes buffer
+    let bytes = images.save (dossier n s) in writes (firstThat ((1, not (dossierGood n)) ∷ (9, short bytes buffer) ∷ [])) s s bytes buffer
 step s (saveClipboard buffer) =
-    let bytes = images.saveClipboard (s .clipboard) in writes (first ((9, short bytes buffer) ∷ [])) s s bytes buffer
-step s (sign user agreement) = orRefused (first ((1, not (userGood user && leb agreement 31)) ∷ [])) s (withSignatures (signed user agreement (s .signatures)) s) done
-step s (takeLog buffer) = let bytes = logBytes (s .log) in writes (first ((9, short bytes buffer) ∷ [])) s (withLog [] s) bytes buffer
+    let bytes = images.saveClipboard (s .clipboard) in writes (firstThat ((9, short bytes buffer) ∷ [])) s s bytes buffer
+step s (sign user agreement) = orRefused (firstThat ((1, not (userGood user && leb agreement 31)) ∷ [])) s (withSignatures (signed user agreement (s .signatures)) s) done
+step s (takeLog buffer) = let bytes = logBytes (s .log) in writes (firstThat ((9, short bytes buffer) ∷ [])) s (withLog [] s) bytes buffer
 step s (request r) = let out = requested s r in (out .0, reply (out .1) [])
 step s (ask image q buffer) = (s, asked image q buffer (imageOf (images.load image)))
 

@@ -1,13 +1,12 @@
 -- A sound state: what document 01 says of every dossier, clipboard, signature table and log.
 use mathlib.Core.Path.{_≡_}
-use mathlib.Core.Bool.{Bool, _||_}
+use mathlib.Core.Bool.{_||_}
 use mathlib.Core.List.{List, []}
 use Prim.Native.Nat.{ℕ, _≤_}
 use lib.Dec.{T, eqb}
 use lib.ListN.{length}
-use Rattle.laws.specs.Slots.{All}
 use Rattle.laws.specs.Sorted.{_∈_, Sorted}
-use Rattle.path.specs.Address.{Address, valid, parent, last}
+use Rattle.path.specs.Address.{Address, parent, last}
 use Rattle.model.specs.Things.{Attribute, Permission, Row, Dossier, Clipboard, empty, branch, single, State, beforeNode, beforeAttribute, beforePermission, ltPermission}
 use Rattle.model.specs.Decide.{clash}
 use Rattle.model.specs.Moves.{nodeAt, objectAt, namesOn, grantRow}
@@ -26,7 +25,7 @@ pub record Sound (d : Dossier) : Type 0 where
   -- the root is there, and of every other node the parent and the left sibling
   pub root : T (there (nodeAt [] d))
   pub above : (r : Row ℕ) → r ∈ d .nodes → T (isRoot (r .0) || there (nodeAt (parent (r .0)) d))
-  pub beside : (r : Row ℕ) → r ∈ d .nodes → T (isRoot (r .0) || (eqb (last (r .0)) 1 || there (nodeAt (left (r .0)) d)))
+  pub left-there : (r : Row ℕ) → r ∈ d .nodes → T (isRoot (r .0) || (eqb (last (r .0)) 1 || there (nodeAt (left (r .0)) d)))
   -- an attribute's node and a permission's object are there
   pub on-node : (r : Row Attribute) → r ∈ d .attributes → T (there (nodeAt (r .0) d))
   pub on-object : (r : Row (ℕ × Permission)) → r ∈ d .permissions → T (there (objectAt (r .0) (r .1 .0) d))
@@ -39,12 +38,6 @@ pub record Sound (d : Dossier) : Type 0 where
   pub few-attributes : length (d .attributes) ≤ 256
   pub few-on-node : (p : Address) → length (namesOn p d) ≤ 16
   pub few-permissions : length (d .permissions) ≤ 128
-
--- what a table must be to be held: so many rows at most, each at a path, in strict order
-pub record Fits {P : Type 0} (lt : Row P → Row P → Bool) (n : ℕ) (l : List (Row P)) : Type 0 where
-  pub room : length l ≤ n
-  pub each : All (λ r. T (valid (r .0))) l
-  pub ascend : Sorted lt l
 
 -- an attribute on the clipboard with its permissions
 pub record SoundSingle (a : Attribute) (l : List Permission) : Type 0 where

@@ -6,10 +6,10 @@ use mathlib.Core.List.{List, [], _∷_, _++_, map}
 use Prim.Native.Nat.{ℕ}
 use lib.IntN.{ℤ, pos, negsuc}
 use lib.ListN.{replicate}
+use Rattle.laws.specs.Slots.{sameBytes}
 use Rattle.path.specs.Address.{Address, same, up, down}
 use Rattle.model.specs.Things.{whole, Permission}
 use Rattle.model.specs.Decide.{matches, clash}
-use Rattle.model.specs.Image.{sameBytes}
 use Rattle.model.specs.Run.{Call, new, save, request, Reply, numberOf, step, run}
 
 abbrev pub all : List Bool → Bool

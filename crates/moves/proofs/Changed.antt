@@ -6,6 +6,7 @@ use mathlib.Core.Option.{Option, none, some, Option·none-ne-some, Option·some-
 use mathlib.Core.List.{List, [], _∷_, map, List·Memᴰ·head, List·Memᴰ·tail, Memᴰ·cast, Memᴰ·map, Memᴰ·of-map}
 use Prim.Native.Nat.{ℕ}
 use lib.Dec.{T, ltb, eqb, eqb→eq, eqb-refl}
+use lib.ListN.{drop}
 use mir.Facts.{yes-and}
 use Rattle.laws.specs.Slots.{pick}
 use Rattle.laws.specs.Order.{ltList}
@@ -13,17 +14,18 @@ use Rattle.laws.specs.Sorted.{_∈_, Sorted, Monotone, insert, move}
 use Rattle.laws.proofs.Order.{ℕ-order, lex2-cases, lex2-left, lex2-right}
 use Rattle.laws.proofs.Sorted.{insert-old, insert-new, insert-back, insert-sorted, move-in, move-back, move-sorted}
 use Rattle.laws.proofs.Sorted as sorted
+use Rattle.laws.proofs.Last.{in-drop, in-rest, sorted-drop, sorted-head}
 use Rattle.path.specs.Address.{Address, before, same}
 use Rattle.path.proofs.Structs.{both}
 use Rattle.path.proofs.Moves.{is-true}
 use Rattle.path.proofs.Laws.{address-order, same-eq, same-refl}
 use Rattle.model.specs.Things.{Value, Attribute, Row, codeValue, ltAttribute, beforeAttribute}
-use Rattle.model.specs.Moves.{keep, at, called, head, attributeIn, otherAttribute}
+use Rattle.model.specs.Moves.{keep, at, called, head, attributeIn, otherAttribute, changedRow, changedIn}
 use Rattle.roundtrip.proofs.Checks.{let-in}
 use Rattle.roundtrip.proofs.Orders.{attributes-order}
 use Rattle.roundtrip.proofs.Prefix.{map-sorted-on}
 use Rattle.roundtrip.proofs.Found.{at-back}
-use Rattle.moves.specs.Room.{OneAttribute, changedRow, changedIn}
+use Rattle.moves.specs.Room.{OneAttribute}
 use Rattle.moves.proofs.Fresh.{not-taken}
 
 abbrev pub isAt : Address → ℕ → Row Attribute → Bool
@@ -37,7 +39,7 @@ head-in : {A : Type 0} (l : List A) (a : A) → head l ≡ some a → a ∈ l
 head-in [] a e = absurd (Option·none-ne-some a e)
 head-in (x ∷ l) a e = List·Memᴰ·head (sym (Option·some-injective x a e))
 
-attribute-found : (p : Address) (n : ℕ) (a : Attribute) (l : List (Row Attribute)) → attributeIn p n l ≡ some a → ((p, a) ∈ l) × (a .name ≡ n)
+pub attribute-found : (p : Address) (n : ℕ) (a : Attribute) (l : List (Row Attribute)) → attributeIn p n l ≡ some a → ((p, a) ∈ l) × (a .name ≡ n)
 attribute-found p n a l e =
     let u = move-back (called n) a (move (at p) l) (head-in (move (called n) (move (at p) l)) a e) in
     let v = let-in (eqb (u .0 .name) n) (u .0) a (u .2) in
@@ -82,6 +84,19 @@ module _ (p : Address) (v : Value) {l : List (Row Attribute)} (s : Sorted before
       go (inr u) =
           lex2-right before address-order (r .0) (t .0) (ltAttribute (revalue p n v r .1) (revalue p n v t .1)) (u .0)
           (inner (u .0) (lex2-cases ltb ℕ-order (r .1 .name) (t .1 .name) (ltList ltb (r .1 .owner ∷ codeValue (r .1 .value)) (t .1 .owner ∷ codeValue (t .1 .value))) (u .1)))
+
+  -- behind the row of that path and name there is no other
+  pub others-stay : (n i : ℕ) (x : Row Attribute) (l′ : List (Row Attribute)) → drop i l ≡ x ∷ l′ → isAt p n x ≡ true → map (revalue p n v) l′ ≡ l′
+  others-stay n i x l′ e t = map-stays (revalue p n v) l′ (λ r m. stays r m (isAt p n r) refl)
+    where
+      stays : (r : Row Attribute) → r ∈ l′ → (b : Bool) → isAt p n r ≡ b → revalue p n v r ≡ r
+      stays r m false f = value-stays p n v r f
+      stays r m true f =
+          let w = both (same (x .0) p) (eqb (x .1 .name) n) (subst T (sym t) tt) in
+          let u = both (same (r .0) p) (eqb (r .1 .name) n) (subst T (sym f) tt) in
+          let q = pair-same x r (in-rest x i l e) (in-drop i l (subst (λ k. r ∈ k) (sym e) (List·Memᴰ·tail m)))
+          (same-eq (x .0) p (w .0) ∙ sym (same-eq (r .0) p (u .0))) (eqb→eq (x .1 .name) n (w .1) ∙ sym (eqb→eq (r .1 .name) n (u .1))) in
+          absurd (attributes-order .irr r (subst (λ (z : Row Attribute). T (beforeAttribute z r)) q (sorted-head beforeAttribute (subst (Sorted beforeAttribute) e (sorted-drop beforeAttribute i s)) r m)))
 
   module _ (a : Attribute) (here : (p, a) ∈ l) where
     abbrev new : Row Attribute

@@ -1,15 +1,18 @@
 -- Rows picked out of a table by a test, and rows for one object: what the next row tells of the list to be stored. Assumes nothing.
-use mathlib.Core.Path.{_≡_, refl, sym, ap, ap₂, subst, _∙_}
+use mathlib.Core.Path.{_≡_, refl, sym, ap, subst, _∙_}
 use mathlib.Core.Logic.{⊎-elim}
 use mathlib.Core.Bool.{Bool, true, false, _&&_, not}
 use mathlib.Core.List.{List, _∷_, map, Memᴰ·of-map}
-use Prim.Native.Nat.{ℕ}
+use Prim.Native.Nat.{ℕ, _+_}
+use lib.ListN.{length, take, length-map}
 use lib.Dec.{T, ltb, eqb, eqb-refl}
 use mir.Facts.{yes-and}
 use Rattle.laws.specs.Sorted.{_∈_, StrictOrder, Sorted, merge, interleave, move}
 use Rattle.laws.specs.Order.{ltPair}
 use Rattle.laws.proofs.Order.{ℕ-order, lex2-cases, lex2-right}
 use Rattle.laws.proofs.Sorted.{interleave-is-merge}
+use Rattle.laws.proofs.Inplace.{map-take}
+use Rattle.laws.proofs.Last.{sorted-take, inter-length}
 use Rattle.path.specs.Address.{Address, before, same}
 use Rattle.path.proofs.Structs.{no}
 use Rattle.path.proofs.Laws.{address-order, same-refl}
@@ -18,7 +21,6 @@ use Rattle.model.specs.Moves.{keep, permissionsIn, grantRow}
 use Rattle.roundtrip.proofs.Orders.{ltNamed, permissions-order}
 use Rattle.roundtrip.proofs.Prefix.{map-sorted-on}
 use Rattle.moves.specs.Room.{OneObject, NoObject, renamed}
-use Rattle.moves.proofs.Merged.{inter-left, inter-right}
 
 -- a row is kept where the test says no
 pub so-not : {r b t : Bool} → r ≡ t → r ≡ b → not t ≡ not b
@@ -71,9 +73,11 @@ module _ (p : Address) (n : ℕ) {k l : List (Row (ℕ × Permission))} (sk : So
       (λ z m h. let w = Memᴰ·of-map (renamed p n) k m in
       none z h (subst (λ (y : Row (ℕ × Permission)). T (same (y .0) p && eqb (y .1 .0) n)) (w .2) (yes-and (same p p) (eqb n n) (same-refl p) (eqb-refl n))))
 
-module _ {A B : Type 0} (lt : B → B → Bool) (f : A → B) (x : A) (y : B) {k k′ : List A} {l l′ : List B} (e : k ≡ x ∷ k′) (d : l ≡ y ∷ l′) where
-  pub merged-left : lt (f x) y ≡ true → interleave lt (map f k) l ≡ f x ∷ interleave lt (map f k′) l
-  merged-left t = ap₂ (λ u v. interleave lt (map f u) v) e d ∙ inter-left lt (f x) y (map f k′) l′ t ∙ ap (λ v. f x ∷ interleave lt (map f k′) v) (sym d)
+  pub renamed-sorted : (i : ℕ) → Sorted beforePermission (map (renamed p n) (take i k))
+  renamed-sorted i = subst (Sorted beforePermission) (sym (map-take (renamed p n) i k)) (sorted-take beforePermission i (map-sorted-on (renamed p n) keeps sk))
 
-  pub merged-right : lt (f x) y ≡ false → interleave lt (map f k) l ≡ y ∷ interleave lt (map f k) l′
-  merged-right t = ap₂ (λ u v. interleave lt (map f u) v) e d ∙ inter-right lt (f x) y (map f k′) l′ t ∙ ap (λ u. y ∷ interleave lt (map f u) l′) (sym e)
+  pub renamed-apart : (x y : Row (ℕ × Permission)) → y ∈ l → renamed p n x ≡ y → ⊥
+  renamed-apart x y h e = none y h (subst (λ (z : Row (ℕ × Permission)). T (same (z .0) p && eqb (z .1 .0) n)) e (yes-and (same p p) (eqb n n) (same-refl p) (eqb-refl n)))
+
+  pub renamed-length : length (merge beforePermission (map (renamed p n) k) l) ≡ length k + length l
+  renamed-length = ap length (sym renamed-merge) ∙ inter-length beforePermission (map (renamed p n) k) l ∙ ap (λ m. m + length l) (length-map k (renamed p n))

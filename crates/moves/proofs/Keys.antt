@@ -7,31 +7,20 @@ use native.Mathlib.Omega.{arith}
 use lib.Dec.{T, eqb, leb, ltb}
 use lib.ListN.{length, getD, length-append}
 use borrow.Author.Tests.{lt-ltb, le-ltb}
-use Rattle.laws.specs.Slots.{pick, slots}
-use Rattle.laws.proofs.Fill.{is-fits}
-use Rattle.path.specs.Address.{Address, valid, before, under, higher, up, on, within}
-use Rattle.path.specs.View.{steps, pathOf, movedOf, number, PathSound}
+use Rattle.laws.specs.Slots.{pick}
+use Rattle.path.specs.Address.{Address, valid, before, under, higher, up, on, inDepth}
+use Rattle.path.specs.View.{steps, pathOf, movedOf, keyOf, PathSound}
 use Rattle.path.specs.declared.Path.{Path}
 use Rattle.path.specs.declared.Moved.{Moved}
-use Rattle.path.proofs.Structs.{no, facts, view-path, slots-length, padded, valid-short, valid-small, within-fits}
-use Rattle.path.proofs.Number.{number-lt, pad-before}
+use Rattle.path.proofs.Structs.{no, path-valid, valid-short, valid-small, inDepth-fits}
+use Rattle.path.proofs.Number.{Digits, key-order}
 use Rattle.path.proofs.Laws.{up-length, up-never, under-on}
 
 pub apart : (q p r : Address) → 0 < length q → on q p ≡ up q r → ⊥
 apart [] p r h e = absurd (omega arith)
 apart (k ∷ q) p r h e = no (sym (under-on (k ∷ q) p) ∙ ap (under (k ∷ q)) e ∙ up-never k q r)
 
-pub not-root : {q : Path} → PathSound q → 0 < q .len → 0 < length (steps q)
-not-root {q} h n = let f = facts q h .size in omega arith
-
-pub path-valid : {p : Path} → PathSound p → T (valid (steps p))
-path-valid {p} h = is-fits pathOf steps view-path (λ l. T (valid l)) p h
-
--- ---- at most six steps, each below 64: also where a step has become 33
-record Digits (l : Address) : Type 0 where
-  short : length l ≤ 6
-  small : (i : ℕ) → getD l i 0 < 64
-
+-- ---- at most six steps, also where a step has become 33
 higher-small : (x y : ℕ) → y ≤ 32 → higher x y ≤ 33
 higher-small x y h = go (leb x y)
   where
@@ -64,7 +53,7 @@ digits-up : (q p : Address) → T (valid p) → Digits (up q p)
 digits-up q p v =
     record {
       short = subst (λ n. n ≤ 6) (sym (up-length q p)) (valid-short p v);
-      small = λ i. let s = up-small q p (valid-small p v) i in omega arith;
+      small = up-small q p (valid-small p v);
     }
 
 digits-on : (q p : Address) → T (valid q) → T (valid p) → length q + length p ≤ 6 → Digits (on q p)
@@ -74,22 +63,9 @@ digits-on q p u v h =
       small = λ i. let s = on-small q p (valid-small q u) (valid-small p v) i in omega arith;
     }
 
-number-before : (l m : Address) → Digits l → Digits m → ltb (number (length l) (slots 6 0 l)) (number (length m) (slots 6 0 m)) ≡ before l m
-number-before l m a b =
-    number-lt (slots 6 0 l) (slots 6 0 m) (slots-length 6 0 l (a .short) ∙ sym (slots-length 6 0 m (b .short)))
-    (λ i. subst (λ k. k < 64) (sym (padded l (6 - length l) i)) (a .small i))
-    (λ i. subst (λ k. k < 64) (sym (padded m (6 - length m) i)) (b .small i))
-    (length l) (length m)
-    ∙ pad-before l m
-
-key-order : {p u : Path} (l m : Address) → p ≡ pathOf l → u ≡ pathOf m → Digits l → Digits m
-    → ltb (number (p .len) (p .steps)) (number (u .len) (u .steps)) ≡ before l m
-unfolding pathOf
-key-order l m e f a b = ap₂ (λ (x y : Path). ltb (number (x .len) (x .steps)) (number (y .len) (y .steps))) e f ∙ number-before l m a b
-
 -- ---- of a path a put below q and a path b moved up from q, the one with the lesser number comes first
 module _ {q a b p u : Path} {x y : ℕ} (sq : PathSound q) (sa : PathSound a) (sb : PathSound b) (s : length (steps q) + length (steps a) ≤ 6)
-    (e : p ≡ pathOf (on (steps q) (steps a))) (f : u ≡ pathOf (up (steps q) (steps b))) (k : x ≡ number (p .len) (p .steps)) (n : y ≡ number (u .len) (u .steps)) where
+    (e : p ≡ pathOf (on (steps q) (steps a))) (f : u ≡ pathOf (up (steps q) (steps b))) (k : x ≡ keyOf p) (n : y ≡ keyOf u) where
   compared : ltb x y ≡ before (on (steps q) (steps a)) (up (steps q) (steps b))
   compared =
       ap₂ ltb k n
@@ -102,5 +78,5 @@ module _ {q a b p u : Path} {x y : ℕ} (sq : PathSound q) (sa : PathSound a) (s
   up-first h = sym compared ∙ le-ltb x y h
 
 -- ---- a path put below q, where that is not too deep
-pub moved-on : {m : Moved} (q p : Address) → m ≡ movedOf (within (on q p)) → length q + length p ≤ 6 → m .path ≡ pathOf (on q p)
-moved-on q p e h = ap (λ (x : Moved). x .path) (e ∙ ap movedOf (within-fits (on q p) (subst (λ n. n ≤ 6) (sym (length-append q p)) h)))
+pub moved-on : {m : Moved} (q p : Address) → m ≡ movedOf (inDepth (on q p)) → length q + length p ≤ 6 → m .path ≡ pathOf (on q p)
+moved-on q p e h = ap (λ (x : Moved). x .path) (e ∙ ap movedOf (inDepth-fits (on q p) (subst (λ n. n ≤ 6) (sym (length-append q p)) h)))

@@ -1,51 +1,31 @@
--- Rows in order, merged and inserted: what the first rows of two lists tell of the list to be stored. Assumes nothing.
-use mathlib.Core.Path.{_≡_, refl, sym, ap, ap₂, subst, subst₂, _∙_}
+-- Rows in order, merged: what the last rows of two lists tell of the list to be stored. Assumes nothing.
+use mathlib.Core.Path.{_≡_, refl, sym, ap, subst, subst₂, _∙_}
 use mathlib.Core.Logic.{_⊎_, inl, inr}
 use mathlib.Core.Bool.{Bool, true, false, not}
 use mathlib.Core.Option.{Option, some, Option·some-injective}
-use mathlib.Core.List.{List, [], _∷_, List·Memᴰ·head, List·Memᴰ·tail, List·Memᴰ·not-nil}
-use Prim.Native.Nat.{ℕ, zero, suc, _<_}
+use mathlib.Core.List.{List, [], _∷_, map}
+use Prim.Native.Nat.{ℕ, suc, _+_, _≤_, _<_}
+use native.Mathlib.Omega.{arith}
 use lib.Dec.{T}
-use lib.ListN.{length, drop}
+use lib.ListN.{length, take}
+use Rattle.laws.specs.Slots.{slots, All}
 use Rattle.laws.specs.Order.{lex, ltPair}
-use Rattle.laws.specs.Sorted.{_∈_, StrictOrder, Sorted, Monotone, insert, merge, interleave}
+use Rattle.laws.specs.Sorted.{_∈_, StrictOrder, Sorted, Monotone, merge, interleave}
 use Rattle.laws.proofs.Order.{lex2-cases, lex2-left, lex2-right}
-use Rattle.laws.proofs.Sorted.{insert-later, interleave-is-merge, move-back, move-sorted}
-use Rattle.path.specs.Address.{Address, before, up, on}
+use Rattle.laws.proofs.Sorted.{interleave-is-merge, move-back, move-sorted}
+use Rattle.laws.proofs.Fill.{Held, held-seen}
+use Rattle.laws.proofs.Last.{Ends, inter-length, ends-move, ends-only-first, ends-first, ends-second}
+use Rattle.path.specs.Address.{Address, valid, before, up, on}
+use Rattle.path.specs.View.{steps, pathOf, PathSound}
+use Rattle.path.specs.declared.Path.{Path}
+use Rattle.path.proofs.Structs.{view-path}
 use Rattle.path.proofs.Laws.{address-order, up-order, on-order}
 use Rattle.path.proofs.Moves.{map-some}
 use Rattle.model.specs.Things.{Row}
 use Rattle.model.specs.Moves.{carry, carried}
-use Rattle.roundtrip.proofs.Checks.{not-not}
 use Rattle.roundtrip.proofs.Orders.{row-order}
 use Rattle.moves.specs.Moved.{raised, below}
 use Rattle.moves.proofs.Keys.{apart}
-
--- ---- a row that is still to come is one of the rows
-pub in-rest : {A : Type 0} (x : A) (i : ℕ) (l : List A) {l′ : List A} → drop i l ≡ x ∷ l′ → x ∈ l
-in-rest x zero l e = subst (λ r. x ∈ r) (sym e) (List·Memᴰ·head refl)
-in-rest x (suc i) [] {l′} e = absurd (List·Memᴰ·not-nil (subst (λ r. x ∈ r) (sym e) (List·Memᴰ·head refl)))
-in-rest x (suc i) (y ∷ l) e = List·Memᴰ·tail (in-rest x i l e)
-
--- ---- insert
-module _ {A : Type 0} (lt : A → A → Bool) (x y : A) {l l′ : List A} (e : l ≡ y ∷ l′) where
-  pub insert-here : lt x y ≡ true → insert lt x l ≡ x ∷ l
-  insert-here t = let f : insert lt x (y ∷ l′) ≡ x ∷ y ∷ l′ = rw t in ap (insert lt x) e ∙ f ∙ ap (λ r. x ∷ r) (sym e)
-
-  pub insert-past : StrictOrder lt → (x ≡ y → ⊥) → lt x y ≡ false → insert lt x l ≡ y ∷ insert lt x l′
-  insert-past o n t = ap (insert lt x) e ∙ insert-later lt o x y l′ (not-not (lt y x) (λ u. n (o .conn x y (subst (λ b. T (not b)) (sym t) tt) u)))
-
--- ---- two lists put together
-module _ {A : Type 0} (lt : A → A → Bool) where
-  pub inter-left : (a b : A) (k l : List A) → lt a b ≡ true → interleave lt (a ∷ k) (b ∷ l) ≡ a ∷ interleave lt k (b ∷ l)
-  inter-left a b k l t = rw t
-
-  pub inter-right : (a b : A) (k l : List A) → lt a b ≡ false → interleave lt (a ∷ k) (b ∷ l) ≡ b ∷ interleave lt (a ∷ k) l
-  inter-right a b k l t = rw t
-
-  pub inter-nil : (k : List A) → interleave lt k [] ≡ k
-  inter-nil [] = refl
-  inter-nil (a ∷ k) = ap (λ r. a ∷ r) (inter-nil k)
 
 -- ---- rows, in the order of their paths and then of what stands there
 module _ {P : Type 0} (ltP : P → P → Bool) (oP : StrictOrder ltP) where
@@ -80,30 +60,61 @@ carried-path : {P : Type 0} (f : Address → Address) (z : Row P) (l : List (Row
 carried-path f z l h = let w = move-back (carry (λ p. some (f p))) z l h in
     (w .0 .0, ap (λ r. r .0) (sym (Option·some-injective (f (w .0 .0), w .0 .1) z (w .2))))
 
--- ---- a branch put in at q
+-- ---- a table whose rows were moved up from q: each path is one that moved
+abbrev pub Up : {P : Type 0} → Address → Row P → Type 0
+Up q r = (b : Path) × PathSound b × (r .0 ≡ up q (steps b))
+
+ups : {P : Type 0} (q : Address) (l : List (Row P)) → All (λ r. T (valid (r .0))) l → All (Up q) (raised q l)
+ups q [] h = tt
+ups q (x ∷ l) h = ((pathOf (x .0), record { model = x .0; same = refl; fits = h .0 }, ap (up q) (sym (view-path (x .0)))), ups q l (h .1))
+
+moved-length : {P : Type 0} (f : Address → Address) (l : List (Row P)) → length (carried (λ p. some (f p)) l) ≡ length l
+moved-length f [] = refl
+moved-length f (x ∷ l) = ap suc (moved-length f l)
+
+pub record Raises {S P : Type 0} (of : Row P → S) (v : S → Row P) (ltP : P → P → Bool) (n : ℕ) (b : S) (q : Address) (l : List (Row P)) (rows : List S) (count : ℕ) : Type 0 where
+  pub held : Held of (Up q) n b rows count
+  pub seen : map v (take count rows) ≡ raised q l
+  pub ascend : Sorted (ltPair before ltP) (map v (take count rows))
+  pub size : count ≡ length l
+
+pub raises : {S P : Type 0} (of : Row P → S) (v : S → Row P) → ((m : Row P) → v (of m) ≡ m) → (ltP : P → P → Bool) → StrictOrder ltP → (n : ℕ) (b : S) (q : Address) (l : List (Row P)) {rows : List S} {count : ℕ}
+    → rows ≡ slots n b (map of (raised q l)) → count ≡ length (raised q l) → length l ≤ n → All (λ r. T (valid (r .0))) l → Sorted (ltPair before ltP) l → Raises of v ltP n b q l rows count
+raises of v back ltP oP n b q l {rows} {count} e c room each s =
+    let same = moved-length (up q) l in
+    let h : Held of (Up q) n b rows count = record { model = raised q l; rows-are = e; count-is = c; room = omega arith; fits = ups q l each } in
+    let w = held-seen of v back (Up q) n b rows count h in
+    record { held = h; seen = w; ascend = subst (Sorted (ltPair before ltP)) (sym w) (carried-sorted ltP oP (λ p. some (up q p)) (up-order q) s); size = c ∙ same }
+
+-- ---- a branch k put in at q among these rows
 module _ {P : Type 0} (ltP : P → P → Bool) (oP : StrictOrder ltP) (q : Address) (h : 0 < length q) where
-  pub pasted : {k l : List (Row P)} → Sorted (ltPair before ltP) k → Sorted (ltPair before ltP) l
-      → interleave (ltPair before ltP) (below q k) (raised q l) ≡ merge (ltPair before ltP) (below q k) (raised q l)
-  pasted {k} {l} sk sl =
-      interleave-is-merge (ltPair before ltP) (row-order ltP oP)
-      (carried-sorted ltP oP (λ p. some (on q p)) (on-order q) sk) (carried-sorted ltP oP (λ p. some (up q p)) (up-order q) sl)
-      (λ z m n. let a = carried-path (on q) z k m in let b = carried-path (up q) z l n in apart q (a .0) (b .0) h (sym (a .1) ∙ b .1))
+  module _ {S : Type 0} {of : Row P → S} {v : S → Row P} {n : ℕ} {b : S} {l : List (Row P)} {rows : List S} {count : ℕ} (m : Raises of v ltP n b q l rows count)
+      {k : List (Row P)} (s : Sorted (ltPair before ltP) k) where
+    pub pasted : merge (ltPair before ltP) (below q k) (map v (take count rows)) ≡ interleave (ltPair before ltP) (below q k) (map v (take count rows))
+    pasted =
+        sym (interleave-is-merge (ltPair before ltP) (row-order ltP oP) (carried-sorted ltP oP (λ p. some (on q p)) (on-order q) s) (m .ascend)
+        (λ z f g. let x = carried-path (on q) z k f in let y = carried-path (up q) z l (subst (λ r. z ∈ r) (m .seen) g) in apart q (x .0) (y .0) h (sym (x .1) ∙ y .1)))
 
-  module _ (x y : Row P) {k k′ l l′ : List (Row P)} (e : k ≡ x ∷ k′) (f : l ≡ y ∷ l′) where
-    pub paste-left : before (on q (x .0)) (up q (y .0)) ≡ true
-        → interleave (ltPair before ltP) (below q k) (raised q l) ≡ (on q (x .0), x .1) ∷ interleave (ltPair before ltP) (below q k′) (raised q l)
-    paste-left t =
-        let a : Row P = (on q (x .0), x .1) in
-        let b : Row P = (up q (y .0), y .1) in
-        ap₂ (λ u v. interleave (ltPair before ltP) (below q u) (raised q v)) e f
-        ∙ inter-left (ltPair before ltP) a b (below q k′) (raised q l′) (row-lt ltP oP a b (apart q (x .0) (y .0) h) ∙ t)
-        ∙ ap (λ v. a ∷ interleave (ltPair before ltP) (below q k′) (raised q v)) (sym f)
+    pub pasted-length : length (merge (ltPair before ltP) (below q k) (map v (take count rows))) ≡ length k + length (map v (take count rows))
+    pasted-length = ap length pasted ∙ inter-length (ltPair before ltP) (below q k) (map v (take count rows)) ∙ ap (λ z. z + length (map v (take count rows))) (moved-length (on q) k)
 
-    pub paste-right : before (on q (x .0)) (up q (y .0)) ≡ false
-        → interleave (ltPair before ltP) (below q k) (raised q l) ≡ (up q (y .0), y .1) ∷ interleave (ltPair before ltP) (below q k) (raised q l′)
-    paste-right t =
-        let a : Row P = (on q (x .0), x .1) in
-        let b : Row P = (up q (y .0), y .1) in
-        ap₂ (λ u v. interleave (ltPair before ltP) (below q u) (raised q v)) e f
-        ∙ inter-right (ltPair before ltP) a b (below q k′) (raised q l′) (row-lt ltP oP a b (apart q (x .0) (y .0) h) ∙ t)
-        ∙ ap (λ u. b ∷ interleave (ltPair before ltP) (below q u) (raised q l′)) (sym e)
+  -- of the two last rows the greater is the last
+  pub only-below : {k k′ l : List (Row P)} {x : Row P} → Ends k k′ x → l ≡ []
+      → Ends (interleave (ltPair before ltP) (below q k) l) (interleave (ltPair before ltP) (below q k′) l) (on q (x .0), x .1)
+  only-below e n = ends-only-first (ltPair before ltP) n (ends-move (carry (λ p. some (on q p))) _ e refl)
+
+  module _ {k k′ l l′ : List (Row P)} {x y : Row P} (e : Ends k k′ x) (f : Ends l l′ y) (w : Up q y) where
+    far : on q (x .0) ≡ y .0 → ⊥
+    far z = apart q (x .0) (steps (w .0)) h (z ∙ w .2)
+
+    pub last-raised : Sorted (ltPair before ltP) k → before (on q (x .0)) (y .0) ≡ true
+        → Ends (interleave (ltPair before ltP) (below q k) l) (interleave (ltPair before ltP) (below q k) l′) y
+    last-raised s t =
+        ends-second (ltPair before ltP) (row-order ltP oP) (ends-move (carry (λ p. some (on q p))) (on q (x .0), x .1) e refl) f
+        (carried-sorted ltP oP (λ p. some (on q p)) (on-order q) s) (row-lt ltP oP (on q (x .0), x .1) y far ∙ t)
+
+    pub last-below : Sorted (ltPair before ltP) l → before (on q (x .0)) (y .0) ≡ false
+        → Ends (interleave (ltPair before ltP) (below q k) l) (interleave (ltPair before ltP) (below q k′) l) (on q (x .0), x .1)
+    last-below s t =
+        ends-first (ltPair before ltP) (row-order ltP oP) (ends-move (carry (λ p. some (on q p))) (on q (x .0), x .1) e refl) f
+        s (λ z. far (ap (λ (r : Row P). r .0) z)) (row-lt ltP oP (on q (x .0), x .1) y far ∙ t)

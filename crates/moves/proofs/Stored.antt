@@ -1,12 +1,9 @@
 -- A pass over a table: the row that is stored is the row that was read, at its new path; what is left to store. Assumes nothing.
-use mathlib.Core.Path.{_≡_, refl, sym, ap, subst, _∙_}
+use mathlib.Core.Path.{_≡_, refl, sym, ap, _∙_}
 use mathlib.Core.Bool.{true, false}
 use mathlib.Core.Option.{Option, none, some}
-use mathlib.Core.List.{List, [], _∷_, map}
-use Prim.Native.Nat.{ℕ, _+_, _<_}
-use lib.ListN.{length, set}
-use Rattle.laws.specs.Slots.{slots, filled}
-use Rattle.laws.proofs.Fill.{Fills, begin, turn, done}
+use mathlib.Core.List.{List, _∷_}
+use Prim.Native.Nat.{ℕ}
 use Rattle.path.specs.Address.{Address}
 use Rattle.path.specs.View.{steps, pathOf, movedOf}
 use Rattle.path.specs.declared.Path.{Path}
@@ -57,26 +54,3 @@ module _ {P : Type 0} (f : Address → Option Address) (x : Row P) {l l′ : Lis
 
   pub row-goes : f (x .0) ≡ none → carried f l ≡ carried f l′
   row-goes m = ap (carried f) e ∙ rw m
-
--- ---- nothing is stored yet of what is another writing of the rows
-pub begin-as : {S M T : Type 0} (mk : List S → ℕ → T) (of : M → S) (n : ℕ) (b : S) (out : List S) {l m : List M} → l ≡ m → out ≡ slots n b []
-    → Fills mk of (λ (r : List M). r) n (mk (slots n b (map of m)) (length m)) out 0 l
-begin-as {M = M} mk of n b out {l} e f = subst (λ z. Fills mk of (λ (r : List M). r) n (mk (slots n b (map of z)) (length z)) out 0 l) e (begin mk of (λ (r : List M). r) n b out l f)
-
--- ---- the rows l are still to be stored from k on
-module _ {S M T : Type 0} (mk : List S → ℕ → T) (of : M → S) (n : ℕ) (whole : T) (out : List S) (k : ℕ) where
-  abbrev pub Left : List M → Type 0
-  Left l = Fills mk of (λ (r : List M). r) n whole out k l
-
-  pub store : {l : List M} → Left l → (y : M) (l′ : List M) (s : S) → k < n → l ≡ y ∷ l′ → s ≡ of y → Fills mk of (λ (r : List M). r) n whole (set out k s) (k + 1) l′
-  store f y l′ s h e r = turn mk of (λ (r : List M). r) n whole out k f y l′ y s h e refl r
-
-  pub pass : {l l′ : List M} → Left l → l ≡ l′ → Left l′
-  pass f e = subst Left e f
-
-  pub finish : {l : List M} → Left l → l ≡ [] → mk out k ≡ whole
-  finish f e = done mk of (λ (r : List M). r) n whole out k f e refl
-
-  -- the rest was stored by another function
-  pub resumed : {l : List M} → Left l → {r : T} → r ≡ filled mk out k (map of l) → r ≡ whole
-  resumed f e = e ∙ sym (f .rest)

@@ -1,3 +1,2 @@
 pub mod Moved
 pub mod Room
-pub mod Cached

@@ -2,14 +2,14 @@
 use mathlib.Core.Path.{_≡_}
 use mathlib.Core.Bool.{_&&_}
 use mathlib.Core.List.{List}
-use mathlib.Core.Option.{Option, none, some}
+use mathlib.Core.Option.{none}
 use Prim.Native.Nat.{ℕ, _+_, _≤_}
 use lib.Dec.{T, eqb}
 use lib.ListN.{length}
-use Rattle.laws.specs.Sorted.{_∈_, insert, move}
+use Rattle.laws.specs.Sorted.{_∈_}
 use Rattle.path.specs.Address.{Address, same}
-use Rattle.model.specs.Things.{Value, Attribute, Permission, Row, beforeAttribute}
-use Rattle.model.specs.Moves.{attributeIn, keep, otherAttribute, grantRow}
+use Rattle.model.specs.Things.{Attribute, Permission, Row}
+use Rattle.model.specs.Moves.{attributeIn, grantRow}
 
 -- the branch is not too deep below q
 abbrev pub Shallow : {P : Type 0} → Address → List (Row P) → Type 0
@@ -28,14 +28,6 @@ FreshPermission a l = a ∈ l → ⊥
 -- one attribute for a name
 abbrev pub OneAttribute : List (Row Attribute) → Type 0
 OneAttribute l = (p : Address) (a b : Attribute) → (p, a) ∈ l → (p, b) ∈ l → a .name ≡ b .name → a ≡ b
-
--- changeValue of the model, on the table alone
-abbrev pub changedRow : Address → Value → Option Attribute → List (Row Attribute) → List (Row Attribute)
-changedRow p v none l = l
-changedRow p v (some a) l = insert beforeAttribute (p, record { name = a .name; owner = a .owner; value = v }) (move (keep (otherAttribute p (a .name))) l)
-
-abbrev pub changedIn : Address → ℕ → Value → List (Row Attribute) → List (Row Attribute)
-changedIn p n v l = changedRow p v (attributeIn p n l) l
 
 -- permissions for one object alone, and none for an object
 abbrev pub grantIn : Row (ℕ × Permission) → Permission

@@ -1,21 +1,19 @@
-// The table of attributes: how it changes. Every pass stores as it goes, and no table is passed on inside a loop.
+// The table of attributes: how it changes. Every function changes its copy of the table in place, and no table is passed on inside a loop.
 ghost use mathlib.Core.Path.{_≡_};
 ghost use mathlib.Core.Bool.{_&&_};
-ghost use mathlib.Core.List.{[], _∷_, map};
+ghost use mathlib.Core.List.{[], _∷_};
 ghost use mathlib.Core.Option.{none};
 ghost use Prim.Native.Nat.{_+_, _-_, _≤_, _<_};
 ghost use lib.Dec.{eqb};
-ghost use lib.ListN.{drop, getD};
-ghost use Rattle.laws.specs.Slots.{filled};
+ghost use lib.ListN.{length, getD};
 ghost use Rattle.laws.specs.Sorted.{insert, merge, move};
 ghost use Rattle.path.specs.Address.{same, down, off};
 ghost use Rattle.path.specs.View.{steps, PathSound};
 ghost use Rattle.model.specs.Things as things;
 ghost use Rattle.model.specs.Moves as model;
-ghost use Rattle.tables.specs.View.{viewAttribute, attributeOf, attributesOf, attributesWith, noAttribute, AttributesSound, viewAttributes, viewValue, AttributeSound};
+ghost use Rattle.tables.specs.View.{viewAttribute, attributesOf, noAttribute, AttributesSound, viewAttributes, viewValue, AttributeSound};
 ghost use Rattle.moves.specs.Moved.{below, raised};
-ghost use Rattle.moves.specs.Cached.{PastedOne};
-ghost use Rattle.moves.specs.Room.{FreshAttribute, OneAttribute, Shallow, changedIn};
+ghost use Rattle.moves.specs.Room.{FreshAttribute, OneAttribute, Shallow};
 use path::Path;
 use path::is_same;
 use path::key;
@@ -27,6 +25,7 @@ use path::root;
 use tables::Attribute;
 use tables::Attributes;
 use tables::Value;
+use tables::blank_attribute;
 use tables::no_attributes;
 use tables::order::attribute_before;
 
@@ -39,74 +38,22 @@ fn placed(a: Attribute, p: Path) -> Attribute
     b
 }
 
-// The rows of t from `from` on, each where an add or a paste at q moves it, stored in out from k on.
-fn up_rest(out: Attributes, k: usize, t: Attributes, from: usize, q: Path) -> Attributes
-    requires { ⌜ AttributesSound t × PathSound q × (k + (t .count - from) ≤ 256) × (from ≤ t .count) ⌝ }
-    ensures { λ r. ⌜ r ≡ filled attributesWith (out .rows) k (map attributeOf (raised (steps q) (drop from (viewAttributes t)))) ⌝ }
-{
-    let n = t.count;
-    let mut all = out;
-    let mut j = k;
-    let mut i = from;
-    while i < n {
-        let a = t.rows[i];
-        let p = path_up(a.path, q);
-        let b = placed(a, p);
-        all.rows[j] = b;
-        j += 1;
-        i += 1;
-    }
-    all.count = j;
-    all
-}
-
-// The rows of a branch from `from` on, each with the prefix of the new place q, stored in out from k on.
-fn on_rest(out: Attributes, k: usize, c: Attributes, from: usize, q: Path) -> Attributes
-    requires { ⌜ AttributesSound c × PathSound q × (k + (c .count - from) ≤ 256) × (from ≤ c .count) × Shallow (steps q) (viewAttributes c) ⌝ }
-    ensures { λ r. ⌜ r ≡ filled attributesWith (out .rows) k (map attributeOf (below (steps q) (drop from (viewAttributes c)))) ⌝ }
-{
-    let n = c.count;
-    let mut all = out;
-    let mut j = k;
-    let mut i = from;
-    while i < n {
-        let a = c.rows[i];
-        let m = path_on(a.path, q);
-        let b = placed(a, m.path);
-        all.rows[j] = b;
-        j += 1;
-        i += 1;
-    }
-    all.count = j;
-    all
-}
-
-// The rows of t from `from` on as they are, stored in out from k on.
-fn rest(out: Attributes, k: usize, t: Attributes, from: usize) -> Attributes
-    requires { ⌜ AttributesSound t × (k + (t .count - from) ≤ 256) × (from ≤ t .count) ⌝ }
-    ensures { λ r. ⌜ r ≡ filled attributesWith (out .rows) k (map attributeOf (drop from (viewAttributes t))) ⌝ }
-{
-    let n = t.count;
-    let mut all = out;
-    let mut j = k;
-    let mut i = from;
-    while i < n {
-        let b = t.rows[i];
-        all.rows[j] = b;
-        j += 1;
-        i += 1;
-    }
-    all.count = j;
-    all
-}
-
 // After an add or a paste at q: at or below q, or a later sibling of it, that step is one higher; the others stay.
 pub fn up(t: Attributes, q: Path) -> Attributes
     requires { ⌜ AttributesSound t × PathSound q ⌝ }
     ensures { λ r. ⌜ r ≡ attributesOf (raised (steps q) (viewAttributes t)) ⌝ }
 {
-    let out = no_attributes();
-    up_rest(out, 0, t, 0, q)
+    let n = t.count;
+    let mut out = t;
+    let mut i: usize = 0;
+    while i < n {
+        let a = out.rows[i];
+        let p = path_up(a.path, q);
+        let b = placed(a, p);
+        out.rows[i] = b;
+        i += 1;
+    }
+    out
 }
 
 // After a delete at q: attributes at or below q go; at or below a later sibling that step is one lower.
@@ -115,11 +62,11 @@ pub fn down(t: Attributes, q: Path) -> Attributes
     ensures { λ r. ⌜ r ≡ attributesOf (model.carried (down (steps q)) (viewAttributes t)) ⌝ }
 {
     let n = t.count;
-    let mut out = no_attributes();
+    let mut out = t;
     let mut k: usize = 0;
     let mut i: usize = 0;
     while i < n {
-        let a = t.rows[i];
+        let a = out.rows[i];
         let m = path_down(a.path, q);
         if m.there {
             let b = placed(a, m.path);
@@ -131,6 +78,11 @@ pub fn down(t: Attributes, q: Path) -> Attributes
         }
     }
     out.count = k;
+    let blank = blank_attribute();
+    while k < n {
+        out.rows[k] = blank;
+        k += 1;
+    }
     out
 }
 
@@ -140,11 +92,11 @@ pub fn off(t: Attributes, q: Path) -> Attributes
     ensures { λ r. ⌜ r ≡ attributesOf (model.carried (off (steps q)) (viewAttributes t)) ⌝ }
 {
     let n = t.count;
-    let mut out = no_attributes();
+    let mut out = t;
     let mut k: usize = 0;
     let mut i: usize = 0;
     while i < n {
-        let a = t.rows[i];
+        let a = out.rows[i];
         let cut = path_off(a.path, q);
         if cut.there {
             let b = placed(a, cut.path);
@@ -156,42 +108,47 @@ pub fn off(t: Attributes, q: Path) -> Attributes
         }
     }
     out.count = k;
+    let blank = blank_attribute();
+    while k < n {
+        out.rows[k] = blank;
+        k += 1;
+    }
     out
 }
 
 // Those of the branch c pasted at q, which is not the root: what stood there has moved as for an add.
 pub fn paste(c: Attributes, t: Attributes, q: Path) -> Attributes
-    requires { ⌜ AttributesSound c × AttributesSound t × PathSound q × (0 < q .len) ⌝ }
+    requires { ⌜ AttributesSound c × AttributesSound t × PathSound q × (0 < length (steps q)) ⌝ }
     requires { ⌜ (c .count + t .count ≤ 256) × Shallow (steps q) (viewAttributes c) ⌝ }
     ensures { λ r. ⌜ r ≡ attributesOf (merge things.beforeAttribute (below (steps q) (viewAttributes c)) (raised (steps q) (viewAttributes t))) ⌝ }
 {
-    let n = c.count;
-    let m = t.count;
-    let mut out = no_attributes();
-    let mut k: usize = 0;
-    let mut i: usize = 0;
-    let mut j: usize = 0;
-    while i < n {
-        if m <= j {
-            return on_rest(out, k, c, i, q);
-        }
-        let a = c.rows[i];
-        let b = t.rows[j];
+    let total = c.count + t.count;
+    let mut out = up(t, q);
+    let mut i = c.count;
+    let mut j = out.count;
+    while 0 < i {
+        let g = i - 1;
+        let a = c.rows[g];
         let p = path_on(a.path, q);
-        let u = path_up(b.path, q);
-        if key(p.path) < key(u) {
-            let x = placed(a, p.path);
-            out.rows[k] = x;
-            k += 1;
-            i += 1;
+        let x = placed(a, p.path);
+        if j == 0 {
+            out.rows[g] = x;
+            i = g;
         } else {
-            let y = placed(b, u);
-            out.rows[k] = y;
-            k += 1;
-            j += 1;
+            let h = j - 1;
+            let b = out.rows[h];
+            let at = i + h;
+            if key(p.path) < key(b.path) {
+                out.rows[at] = b;
+                j = h;
+            } else {
+                out.rows[at] = x;
+                i = g;
+            }
         }
     }
-    up_rest(out, k, t, j, q)
+    out.count = total;
+    out
 }
 
 // One attribute more, where it comes in the order of records; its name is not on the node yet.
@@ -200,18 +157,21 @@ pub fn insert(a: Attribute, t: Attributes) -> Attributes
     ensures { λ r. ⌜ r ≡ attributesOf (insert things.beforeAttribute (viewAttribute a) (viewAttributes t)) ⌝ }
 {
     let n = t.count;
-    let mut out = no_attributes();
-    let mut i: usize = 0;
-    while i < n {
-        let b = t.rows[i];
+    let mut out = t;
+    let mut i = n;
+    while 0 < i {
+        let j = i - 1;
+        let b = out.rows[j];
         if attribute_before(a, b) {
+            out.rows[i] = b;
+            i = j;
+        } else {
             out.rows[i] = a;
-            return rest(out, i + 1, t, i);
+            out.count = n + 1;
+            return out;
         }
-        out.rows[i] = b;
-        i += 1;
     }
-    out.rows[n] = a;
+    out.rows[0] = a;
     out.count = n + 1;
     out
 }
@@ -230,11 +190,11 @@ pub fn without(t: Attributes, p: Path, name: u16) -> Attributes
     ensures { λ r. ⌜ r ≡ attributesOf (move (model.keep (model.otherAttribute (steps p) name)) (viewAttributes t)) ⌝ }
 {
     let n = t.count;
-    let mut out = no_attributes();
+    let mut out = t;
     let mut k: usize = 0;
     let mut i: usize = 0;
     while i < n {
-        let a = t.rows[i];
+        let a = out.rows[i];
         if is_at(a, p, name) {
             i += 1;
         } else {
@@ -244,6 +204,11 @@ pub fn without(t: Attributes, p: Path, name: u16) -> Attributes
         }
     }
     out.count = k;
+    let blank = blank_attribute();
+    while k < n {
+        out.rows[k] = blank;
+        k += 1;
+    }
     out
 }
 
@@ -263,23 +228,20 @@ fn revalued(a: Attribute, v: Value) -> Attribute
 // The attribute of that name at p with another value.
 pub fn changed(t: Attributes, p: Path, name: u16, v: Value) -> Attributes
     requires { ⌜ AttributesSound t × PathSound p × OneAttribute (viewAttributes t) ⌝ }
-    ensures { λ r. ⌜ r ≡ attributesOf (changedIn (steps p) name (viewValue v) (viewAttributes t)) ⌝ }
+    ensures { λ r. ⌜ r ≡ attributesOf (model.changedIn (steps p) name (viewValue v) (viewAttributes t)) ⌝ }
 {
     let n = t.count;
-    let mut out = no_attributes();
+    let mut out = t;
     let mut i: usize = 0;
     while i < n {
-        let a = t.rows[i];
+        let a = out.rows[i];
         if is_at(a, p, name) {
             let b = revalued(a, v);
             out.rows[i] = b;
-            i += 1;
-        } else {
-            out.rows[i] = a;
-            i += 1;
+            return out;
         }
+        i += 1;
     }
-    out.count = n;
     out
 }
 
@@ -307,10 +269,10 @@ fn renamed(c: Attributes, p: Path, name: u16) -> Attribute
     }
 }
 
-// The cached attribute, the one row of c, pasted under that name at p; the name is not on the node yet.
+// The cached attribute, the first row of c, pasted under that name at p; the name is not on the node yet.
 pub fn paste_one(c: Attributes, t: Attributes, p: Path, name: u16) -> Attributes
     requires { ⌜ AttributesSound t × PathSound p × (t .count < 256) × (model.attributeIn (steps p) name (viewAttributes t) ≡ none) ⌝ }
-    ensures { λ r. ⌜ PastedOne c (steps p) name (viewAttributes t) r ⌝ }
+    ensures { λ r. ⌜ r ≡ attributesOf (insert things.beforeAttribute (steps p, record { name = name; owner = getD (c .rows) 0 noAttribute .owner; value = viewValue (getD (c .rows) 0 noAttribute .value) }) (viewAttributes t)) ⌝ }
 {
     let b = renamed(c, p, name);
     insert(b, t)

@@ -1,15 +1,14 @@
-// The table of nodes: how it changes. Every pass stores as it goes, and no table is passed on inside a loop.
+// The table of nodes: how it changes. Every function changes its copy of the table in place, and no table is passed on inside a loop.
 ghost use mathlib.Core.Path.{_≡_};
-ghost use mathlib.Core.List.{[], _∷_, map};
+ghost use mathlib.Core.List.{[], _∷_};
 ghost use Prim.Native.Nat.{_+_, _-_, _≤_, _<_};
-ghost use lib.ListN.{drop};
-ghost use Rattle.laws.specs.Slots.{filled};
+ghost use lib.ListN.{length};
 ghost use Rattle.laws.specs.Sorted.{insert, merge};
 ghost use Rattle.path.specs.Address.{down, off};
 ghost use Rattle.path.specs.View.{steps, PathSound};
 ghost use Rattle.model.specs.Things as things;
 ghost use Rattle.model.specs.Moves as model;
-ghost use Rattle.tables.specs.View.{viewNode, nodeOf, nodesOf, nodesWith, NodesSound, viewNodes, NodeSound};
+ghost use Rattle.tables.specs.View.{viewNode, nodesOf, NodesSound, viewNodes, NodeSound};
 ghost use Rattle.moves.specs.Moved.{below, raised};
 ghost use Rattle.moves.specs.Room.{FreshNode, Shallow};
 use path::Path;
@@ -21,6 +20,7 @@ use path::path_up;
 use path::root;
 use tables::Node;
 use tables::Nodes;
+use tables::blank_node;
 use tables::no_nodes;
 use tables::order::node_before;
 
@@ -33,74 +33,22 @@ fn placed(a: Node, p: Path) -> Node
     b
 }
 
-// The rows of t from `from` on, each where an add or a paste at q moves it, stored in out from k on.
-fn up_rest(out: Nodes, k: usize, t: Nodes, from: usize, q: Path) -> Nodes
-    requires { ⌜ NodesSound t × PathSound q × (k + (t .count - from) ≤ 64) × (from ≤ t .count) ⌝ }
-    ensures { λ r. ⌜ r ≡ filled nodesWith (out .rows) k (map nodeOf (raised (steps q) (drop from (viewNodes t)))) ⌝ }
-{
-    let n = t.count;
-    let mut all = out;
-    let mut j = k;
-    let mut i = from;
-    while i < n {
-        let a = t.rows[i];
-        let p = path_up(a.path, q);
-        let b = placed(a, p);
-        all.rows[j] = b;
-        j += 1;
-        i += 1;
-    }
-    all.count = j;
-    all
-}
-
-// The rows of a branch from `from` on, each with the prefix of the new place q, stored in out from k on.
-fn on_rest(out: Nodes, k: usize, c: Nodes, from: usize, q: Path) -> Nodes
-    requires { ⌜ NodesSound c × PathSound q × (k + (c .count - from) ≤ 64) × (from ≤ c .count) × Shallow (steps q) (viewNodes c) ⌝ }
-    ensures { λ r. ⌜ r ≡ filled nodesWith (out .rows) k (map nodeOf (below (steps q) (drop from (viewNodes c)))) ⌝ }
-{
-    let n = c.count;
-    let mut all = out;
-    let mut j = k;
-    let mut i = from;
-    while i < n {
-        let a = c.rows[i];
-        let m = path_on(a.path, q);
-        let b = placed(a, m.path);
-        all.rows[j] = b;
-        j += 1;
-        i += 1;
-    }
-    all.count = j;
-    all
-}
-
-// The rows of t from `from` on as they are, stored in out from k on.
-fn rest(out: Nodes, k: usize, t: Nodes, from: usize) -> Nodes
-    requires { ⌜ NodesSound t × (k + (t .count - from) ≤ 64) × (from ≤ t .count) ⌝ }
-    ensures { λ r. ⌜ r ≡ filled nodesWith (out .rows) k (map nodeOf (drop from (viewNodes t))) ⌝ }
-{
-    let n = t.count;
-    let mut all = out;
-    let mut j = k;
-    let mut i = from;
-    while i < n {
-        let b = t.rows[i];
-        all.rows[j] = b;
-        j += 1;
-        i += 1;
-    }
-    all.count = j;
-    all
-}
-
 // After an add or a paste at q: at or below q, or a later sibling of it, that step is one higher; the others stay.
 pub fn up(t: Nodes, q: Path) -> Nodes
     requires { ⌜ NodesSound t × PathSound q ⌝ }
     ensures { λ r. ⌜ r ≡ nodesOf (raised (steps q) (viewNodes t)) ⌝ }
 {
-    let out = no_nodes();
-    up_rest(out, 0, t, 0, q)
+    let n = t.count;
+    let mut out = t;
+    let mut i: usize = 0;
+    while i < n {
+        let a = out.rows[i];
+        let p = path_up(a.path, q);
+        let b = placed(a, p);
+        out.rows[i] = b;
+        i += 1;
+    }
+    out
 }
 
 // After a delete at q: nodes at or below q go; at or below a later sibling that step is one lower.
@@ -109,11 +57,11 @@ pub fn down(t: Nodes, q: Path) -> Nodes
     ensures { λ r. ⌜ r ≡ nodesOf (model.carried (down (steps q)) (viewNodes t)) ⌝ }
 {
     let n = t.count;
-    let mut out = no_nodes();
+    let mut out = t;
     let mut k: usize = 0;
     let mut i: usize = 0;
     while i < n {
-        let a = t.rows[i];
+        let a = out.rows[i];
         let m = path_down(a.path, q);
         if m.there {
             let b = placed(a, m.path);
@@ -125,6 +73,11 @@ pub fn down(t: Nodes, q: Path) -> Nodes
         }
     }
     out.count = k;
+    let blank = blank_node();
+    while k < n {
+        out.rows[k] = blank;
+        k += 1;
+    }
     out
 }
 
@@ -134,11 +87,11 @@ pub fn off(t: Nodes, q: Path) -> Nodes
     ensures { λ r. ⌜ r ≡ nodesOf (model.carried (off (steps q)) (viewNodes t)) ⌝ }
 {
     let n = t.count;
-    let mut out = no_nodes();
+    let mut out = t;
     let mut k: usize = 0;
     let mut i: usize = 0;
     while i < n {
-        let a = t.rows[i];
+        let a = out.rows[i];
         let cut = path_off(a.path, q);
         if cut.there {
             let b = placed(a, cut.path);
@@ -150,42 +103,47 @@ pub fn off(t: Nodes, q: Path) -> Nodes
         }
     }
     out.count = k;
+    let blank = blank_node();
+    while k < n {
+        out.rows[k] = blank;
+        k += 1;
+    }
     out
 }
 
 // Those of the branch c pasted at q, which is not the root: what stood there has moved as for an add.
 pub fn paste(c: Nodes, t: Nodes, q: Path) -> Nodes
-    requires { ⌜ NodesSound c × NodesSound t × PathSound q × (0 < q .len) ⌝ }
+    requires { ⌜ NodesSound c × NodesSound t × PathSound q × (0 < length (steps q)) ⌝ }
     requires { ⌜ (c .count + t .count ≤ 64) × Shallow (steps q) (viewNodes c) ⌝ }
     ensures { λ r. ⌜ r ≡ nodesOf (merge things.beforeNode (below (steps q) (viewNodes c)) (raised (steps q) (viewNodes t))) ⌝ }
 {
-    let n = c.count;
-    let m = t.count;
-    let mut out = no_nodes();
-    let mut k: usize = 0;
-    let mut i: usize = 0;
-    let mut j: usize = 0;
-    while i < n {
-        if m <= j {
-            return on_rest(out, k, c, i, q);
-        }
-        let a = c.rows[i];
-        let b = t.rows[j];
+    let total = c.count + t.count;
+    let mut out = up(t, q);
+    let mut i = c.count;
+    let mut j = out.count;
+    while 0 < i {
+        let g = i - 1;
+        let a = c.rows[g];
         let p = path_on(a.path, q);
-        let u = path_up(b.path, q);
-        if key(p.path) < key(u) {
-            let x = placed(a, p.path);
-            out.rows[k] = x;
-            k += 1;
-            i += 1;
+        let x = placed(a, p.path);
+        if j == 0 {
+            out.rows[g] = x;
+            i = g;
         } else {
-            let y = placed(b, u);
-            out.rows[k] = y;
-            k += 1;
-            j += 1;
+            let h = j - 1;
+            let b = out.rows[h];
+            let at = i + h;
+            if key(p.path) < key(b.path) {
+                out.rows[at] = b;
+                j = h;
+            } else {
+                out.rows[at] = x;
+                i = g;
+            }
         }
     }
-    up_rest(out, k, t, j, q)
+    out.count = total;
+    out
 }
 
 // One node more, where it comes in the order of records; that row is not there yet.
@@ -194,18 +152,21 @@ pub fn insert(a: Node, t: Nodes) -> Nodes
     ensures { λ r. ⌜ r ≡ nodesOf (insert things.beforeNode (viewNode a) (viewNodes t)) ⌝ }
 {
     let n = t.count;
-    let mut out = no_nodes();
-    let mut i: usize = 0;
-    while i < n {
-        let b = t.rows[i];
+    let mut out = t;
+    let mut i = n;
+    while 0 < i {
+        let j = i - 1;
+        let b = out.rows[j];
         if node_before(a, b) {
+            out.rows[i] = b;
+            i = j;
+        } else {
             out.rows[i] = a;
-            return rest(out, i + 1, t, i);
+            out.count = n + 1;
+            return out;
         }
-        out.rows[i] = b;
-        i += 1;
     }
-    out.rows[n] = a;
+    out.rows[0] = a;
     out.count = n + 1;
     out
 }

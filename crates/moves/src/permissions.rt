@@ -1,19 +1,18 @@
-// The table of permissions: how it changes. Every pass stores as it goes, and no table is passed on inside a loop.
+// The table of permissions: how it changes. Every function changes its copy of the table in place, and no table is passed on inside a loop.
 ghost use mathlib.Core.Path.{_≡_};
 ghost use mathlib.Core.Bool.{_&&_};
 ghost use mathlib.Core.List.{[], map};
 ghost use Prim.Native.Nat.{_+_, _-_, _≤_, _<_};
 ghost use lib.Dec.{eqb};
-ghost use lib.ListN.{drop};
-ghost use Rattle.laws.specs.Slots.{filled};
+ghost use lib.ListN.{length};
 ghost use Rattle.laws.specs.Sorted.{insert, merge, move};
 ghost use Rattle.path.specs.Address.{same, down, off};
 ghost use Rattle.path.specs.View.{steps, PathSound};
 ghost use Rattle.model.specs.Things as things;
 ghost use Rattle.model.specs.Moves as model;
-ghost use Rattle.tables.specs.View.{viewPermission, permissionOf, permissionsOf, permissionsWith, PermissionsSound, viewGrant, viewPermissions, PermissionSound};
+ghost use Rattle.tables.specs.View.{viewPermission, permissionsOf, PermissionsSound, viewGrant, viewPermissions, PermissionSound};
 ghost use Rattle.moves.specs.Moved.{below, raised};
-ghost use Rattle.moves.specs.Room.{FreshPermission, NoObject, OneObject, Shallow, grantIn, renamed};
+ghost use Rattle.moves.specs.Room.{FreshPermission, NoObject, OneObject, Shallow, grantIn};
 use path::Path;
 use path::is_same;
 use path::key;
@@ -26,7 +25,7 @@ use tables::Grant;
 use tables::Permission;
 use tables::Permissions;
 use tables::ask::same_grant;
-use tables::no_permissions;
+use tables::blank_permission;
 use tables::order::permission_before;
 
 // The same at another path: all but its place stays.
@@ -38,74 +37,22 @@ fn placed(a: Permission, p: Path) -> Permission
     b
 }
 
-// The rows of t from `from` on, each where an add or a paste at q moves it, stored in out from k on.
-fn up_rest(out: Permissions, k: usize, t: Permissions, from: usize, q: Path) -> Permissions
-    requires { ⌜ PermissionsSound t × PathSound q × (k + (t .count - from) ≤ 128) × (from ≤ t .count) ⌝ }
-    ensures { λ r. ⌜ r ≡ filled permissionsWith (out .rows) k (map permissionOf (raised (steps q) (drop from (viewPermissions t)))) ⌝ }
-{
-    let n = t.count;
-    let mut all = out;
-    let mut j = k;
-    let mut i = from;
-    while i < n {
-        let a = t.rows[i];
-        let p = path_up(a.path, q);
-        let b = placed(a, p);
-        all.rows[j] = b;
-        j += 1;
-        i += 1;
-    }
-    all.count = j;
-    all
-}
-
-// The rows of a branch from `from` on, each with the prefix of the new place q, stored in out from k on.
-fn on_rest(out: Permissions, k: usize, c: Permissions, from: usize, q: Path) -> Permissions
-    requires { ⌜ PermissionsSound c × PathSound q × (k + (c .count - from) ≤ 128) × (from ≤ c .count) × Shallow (steps q) (viewPermissions c) ⌝ }
-    ensures { λ r. ⌜ r ≡ filled permissionsWith (out .rows) k (map permissionOf (below (steps q) (drop from (viewPermissions c)))) ⌝ }
-{
-    let n = c.count;
-    let mut all = out;
-    let mut j = k;
-    let mut i = from;
-    while i < n {
-        let a = c.rows[i];
-        let m = path_on(a.path, q);
-        let b = placed(a, m.path);
-        all.rows[j] = b;
-        j += 1;
-        i += 1;
-    }
-    all.count = j;
-    all
-}
-
-// The rows of t from `from` on as they are, stored in out from k on.
-fn rest(out: Permissions, k: usize, t: Permissions, from: usize) -> Permissions
-    requires { ⌜ PermissionsSound t × (k + (t .count - from) ≤ 128) × (from ≤ t .count) ⌝ }
-    ensures { λ r. ⌜ r ≡ filled permissionsWith (out .rows) k (map permissionOf (drop from (viewPermissions t))) ⌝ }
-{
-    let n = t.count;
-    let mut all = out;
-    let mut j = k;
-    let mut i = from;
-    while i < n {
-        let b = t.rows[i];
-        all.rows[j] = b;
-        j += 1;
-        i += 1;
-    }
-    all.count = j;
-    all
-}
-
 // After an add or a paste at q: at or below q, or a later sibling of it, that step is one higher; the others stay.
 pub fn up(t: Permissions, q: Path) -> Permissions
     requires { ⌜ PermissionsSound t × PathSound q ⌝ }
     ensures { λ r. ⌜ r ≡ permissionsOf (raised (steps q) (viewPermissions t)) ⌝ }
 {
-    let out = no_permissions();
-    up_rest(out, 0, t, 0, q)
+    let n = t.count;
+    let mut out = t;
+    let mut i: usize = 0;
+    while i < n {
+        let a = out.rows[i];
+        let p = path_up(a.path, q);
+        let b = placed(a, p);
+        out.rows[i] = b;
+        i += 1;
+    }
+    out
 }
 
 // After a delete at q: permissions at or below q go; at or below a later sibling that step is one lower.
@@ -114,11 +61,11 @@ pub fn down(t: Permissions, q: Path) -> Permissions
     ensures { λ r. ⌜ r ≡ permissionsOf (model.carried (down (steps q)) (viewPermissions t)) ⌝ }
 {
     let n = t.count;
-    let mut out = no_permissions();
+    let mut out = t;
     let mut k: usize = 0;
     let mut i: usize = 0;
     while i < n {
-        let a = t.rows[i];
+        let a = out.rows[i];
         let m = path_down(a.path, q);
         if m.there {
             let b = placed(a, m.path);
@@ -130,6 +77,11 @@ pub fn down(t: Permissions, q: Path) -> Permissions
         }
     }
     out.count = k;
+    let blank = blank_permission();
+    while k < n {
+        out.rows[k] = blank;
+        k += 1;
+    }
     out
 }
 
@@ -139,11 +91,11 @@ pub fn off(t: Permissions, q: Path) -> Permissions
     ensures { λ r. ⌜ r ≡ permissionsOf (model.carried (off (steps q)) (viewPermissions t)) ⌝ }
 {
     let n = t.count;
-    let mut out = no_permissions();
+    let mut out = t;
     let mut k: usize = 0;
     let mut i: usize = 0;
     while i < n {
-        let a = t.rows[i];
+        let a = out.rows[i];
         let cut = path_off(a.path, q);
         if cut.there {
             let b = placed(a, cut.path);
@@ -155,42 +107,47 @@ pub fn off(t: Permissions, q: Path) -> Permissions
         }
     }
     out.count = k;
+    let blank = blank_permission();
+    while k < n {
+        out.rows[k] = blank;
+        k += 1;
+    }
     out
 }
 
 // Those of the branch c pasted at q, which is not the root: what stood there has moved as for an add.
 pub fn paste(c: Permissions, t: Permissions, q: Path) -> Permissions
-    requires { ⌜ PermissionsSound c × PermissionsSound t × PathSound q × (0 < q .len) ⌝ }
+    requires { ⌜ PermissionsSound c × PermissionsSound t × PathSound q × (0 < length (steps q)) ⌝ }
     requires { ⌜ (c .count + t .count ≤ 128) × Shallow (steps q) (viewPermissions c) ⌝ }
     ensures { λ r. ⌜ r ≡ permissionsOf (merge things.beforePermission (below (steps q) (viewPermissions c)) (raised (steps q) (viewPermissions t))) ⌝ }
 {
-    let n = c.count;
-    let m = t.count;
-    let mut out = no_permissions();
-    let mut k: usize = 0;
-    let mut i: usize = 0;
-    let mut j: usize = 0;
-    while i < n {
-        if m <= j {
-            return on_rest(out, k, c, i, q);
-        }
-        let a = c.rows[i];
-        let b = t.rows[j];
+    let total = c.count + t.count;
+    let mut out = up(t, q);
+    let mut i = c.count;
+    let mut j = out.count;
+    while 0 < i {
+        let g = i - 1;
+        let a = c.rows[g];
         let p = path_on(a.path, q);
-        let u = path_up(b.path, q);
-        if key(p.path) < key(u) {
-            let x = placed(a, p.path);
-            out.rows[k] = x;
-            k += 1;
-            i += 1;
+        let x = placed(a, p.path);
+        if j == 0 {
+            out.rows[g] = x;
+            i = g;
         } else {
-            let y = placed(b, u);
-            out.rows[k] = y;
-            k += 1;
-            j += 1;
+            let h = j - 1;
+            let b = out.rows[h];
+            let at = i + h;
+            if key(p.path) < key(b.path) {
+                out.rows[at] = b;
+                j = h;
+            } else {
+                out.rows[at] = x;
+                i = g;
+            }
         }
     }
-    up_rest(out, k, t, j, q)
+    out.count = total;
+    out
 }
 
 // One permission more, where it comes in the order of records; that row is not there yet.
@@ -199,18 +156,21 @@ pub fn insert(a: Permission, t: Permissions) -> Permissions
     ensures { λ r. ⌜ r ≡ permissionsOf (insert things.beforePermission (viewPermission a) (viewPermissions t)) ⌝ }
 {
     let n = t.count;
-    let mut out = no_permissions();
-    let mut i: usize = 0;
-    while i < n {
-        let b = t.rows[i];
+    let mut out = t;
+    let mut i = n;
+    while 0 < i {
+        let j = i - 1;
+        let b = out.rows[j];
         if permission_before(a, b) {
+            out.rows[i] = b;
+            i = j;
+        } else {
             out.rows[i] = a;
-            return rest(out, i + 1, t, i);
+            out.count = n + 1;
+            return out;
         }
-        out.rows[i] = b;
-        i += 1;
     }
-    out.rows[n] = a;
+    out.rows[0] = a;
     out.count = n + 1;
     out
 }
@@ -229,11 +189,11 @@ pub fn without(t: Permissions, p: Path, name: u16) -> Permissions
     ensures { λ r. ⌜ r ≡ permissionsOf (move (model.keep (model.otherObject (steps p) name)) (viewPermissions t)) ⌝ }
 {
     let n = t.count;
-    let mut out = no_permissions();
+    let mut out = t;
     let mut k: usize = 0;
     let mut i: usize = 0;
     while i < n {
-        let a = t.rows[i];
+        let a = out.rows[i];
         if is_at(a, p, name) {
             i += 1;
         } else {
@@ -243,6 +203,11 @@ pub fn without(t: Permissions, p: Path, name: u16) -> Permissions
         }
     }
     out.count = k;
+    let blank = blank_permission();
+    while k < n {
+        out.rows[k] = blank;
+        k += 1;
+    }
     out
 }
 
@@ -260,11 +225,11 @@ pub fn except(t: Permissions, p: Path, name: u16, g: Grant) -> Permissions
     ensures { λ r. ⌜ r ≡ permissionsOf (move (model.keep (model.otherPermission (steps p) name (viewGrant g))) (viewPermissions t)) ⌝ }
 {
     let n = t.count;
-    let mut out = no_permissions();
+    let mut out = t;
     let mut k: usize = 0;
     let mut i: usize = 0;
     while i < n {
-        let a = t.rows[i];
+        let a = out.rows[i];
         if is_exactly(a, p, name, g) {
             i += 1;
         } else {
@@ -274,6 +239,11 @@ pub fn except(t: Permissions, p: Path, name: u16, g: Grant) -> Permissions
         }
     }
     out.count = k;
+    let blank = blank_permission();
+    while k < n {
+        out.rows[k] = blank;
+        k += 1;
+    }
     out
 }
 
@@ -296,11 +266,11 @@ pub fn of_object(t: Permissions, p: Path, name: u16) -> Permissions
 {
     let n = t.count;
     let top = root();
-    let mut out = no_permissions();
+    let mut out = t;
     let mut k: usize = 0;
     let mut i: usize = 0;
     while i < n {
-        let a = t.rows[i];
+        let a = out.rows[i];
         if is_at(a, p, name) {
             let b = granted(a, top, name);
             out.rows[k] = b;
@@ -311,34 +281,12 @@ pub fn of_object(t: Permissions, p: Path, name: u16) -> Permissions
         }
     }
     out.count = k;
-    out
-}
-
-// The rows of c from `from` on, each for the object of that name at p, stored in out from k on.
-fn under_rest(
-    out: Permissions,
-    k: usize,
-    c: Permissions,
-    from: usize,
-    p: Path,
-    name: u16,
-) -> Permissions
-    requires { ⌜ PermissionsSound c × PathSound p × (k + (c .count - from) ≤ 128) × (from ≤ c .count) ⌝ }
-    ensures { λ r. ⌜ r ≡ filled permissionsWith (out .rows) k (map permissionOf (map (renamed (steps p) name) (drop from (viewPermissions c)))) ⌝ }
-{
-    let n = c.count;
-    let mut all = out;
-    let mut j = k;
-    let mut i = from;
-    while i < n {
-        let a = c.rows[i];
-        let b = granted(a, p, name);
-        all.rows[j] = b;
-        j += 1;
-        i += 1;
+    let blank = blank_permission();
+    while k < n {
+        out.rows[k] = blank;
+        k += 1;
     }
-    all.count = j;
-    all
+    out
 }
 
 // Those of a cached attribute (all for one object) pasted for the object of that name at p, where there are none for it yet.
@@ -347,28 +295,30 @@ pub fn paste_under(c: Permissions, t: Permissions, p: Path, name: u16) -> Permis
     requires { ⌜ OneObject (viewPermissions c) × NoObject (steps p) name (viewPermissions t) ⌝ }
     ensures { λ r. ⌜ r ≡ permissionsOf (merge things.beforePermission (map (model.grantRow (steps p) name) (map grantIn (viewPermissions c))) (viewPermissions t)) ⌝ }
 {
-    let n = c.count;
-    let m = t.count;
-    let mut out = no_permissions();
-    let mut k: usize = 0;
-    let mut i: usize = 0;
-    let mut j: usize = 0;
-    while i < n {
-        if m <= j {
-            return under_rest(out, k, c, i, p, name);
-        }
-        let a = c.rows[i];
-        let b = t.rows[j];
+    let total = c.count + t.count;
+    let mut out = t;
+    let mut i = c.count;
+    let mut j = t.count;
+    while 0 < i {
+        let g = i - 1;
+        let a = c.rows[g];
         let x = granted(a, p, name);
-        if permission_before(x, b) {
-            out.rows[k] = x;
-            k += 1;
-            i += 1;
+        if j == 0 {
+            out.rows[g] = x;
+            i = g;
         } else {
-            out.rows[k] = b;
-            k += 1;
-            j += 1;
+            let h = j - 1;
+            let b = out.rows[h];
+            let at = i + h;
+            if permission_before(x, b) {
+                out.rows[at] = b;
+                j = h;
+            } else {
+                out.rows[at] = x;
+                i = g;
+            }
         }
     }
-    rest(out, k, t, j)
+    out.count = total;
+    out
 }

@@ -13,9 +13,9 @@ use Rattle.laws.specs.Slots.{slots}
 use Rattle.laws.specs.Order.{lex, ltList}
 use Rattle.path.specs.Address.{Address, same, before}
 use Rattle.path.specs.declared.Path.{Path}
-use Rattle.path.specs.View.{steps, pathOf, PathSound, number}
+use Rattle.path.specs.View.{steps, pathOf, PathSound, number, keyOf}
 use Rattle.path.proofs.Laws.{address-order, same-self, same-true}
-use Rattle.path.proofs.Structs.{facts}
+use Rattle.path.proofs.Structs.{facts, slots-length, padded}
 
 data Tri (k j : ℕ) : Type 0 where
   less : k < j → Tri k j
@@ -61,7 +61,7 @@ lex-end k j = go (ltb k j) (ltb j k)
     go false true = refl
     go false false = refl
 
-pub number-lt : (l m : List ℕ) → length l ≡ length m → ((i : ℕ) → getD l i 0 < 64) → ((i : ℕ) → getD m i 0 < 64) → (k j : ℕ)
+number-lt : (l m : List ℕ) → length l ≡ length m → ((i : ℕ) → getD l i 0 < 64) → ((i : ℕ) → getD m i 0 < 64) → (k j : ℕ)
     → ltb (number k l) (number j m) ≡ lexed k j (ltList ltb l m)
 number-lt [] [] e h g k j = lex-end k j
 number-lt [] (y ∷ m) e h g k j = absurd (omega arith)
@@ -87,7 +87,7 @@ pad-list [] (y ∷ q) z e = absurd (omega arith)
 pad-list (x ∷ p) [] z e = absurd (omega arith)
 pad-list (x ∷ p) (y ∷ q) z e = ap (λ t. lexed x y t) (pad-list p q z (omega arith))
 
-pub pad-before : (l m : Address) → lexed (length l) (length m) (ltList ltb (slots 6 0 l) (slots 6 0 m)) ≡ before l m
+pad-before : (l m : Address) → lexed (length l) (length m) (ltList ltb (slots 6 0 l) (slots 6 0 m)) ≡ before l m
 pad-before l m = go (tri (length l) (length m))
   where
     go : Tri (length l) (length m) → lexed (length l) (length m) (ltList ltb (slots 6 0 l) (slots 6 0 m)) ≡ before l m
@@ -103,30 +103,46 @@ both-ways true c f g = sym (f refl)
 both-ways false true f g = g refl
 both-ways false false f g = refl
 
--- ---- paths that stand for an address
-pub key-before : (p q : Path) → PathSound p → PathSound q → ltb (number (p .len) (p .steps)) (number (q .len) (q .steps)) ≡ before (steps p) (steps q)
-key-before p q hp hq =
-    let fp = facts p hp in
-    let fq = facts q hq in
-    let sp = fp .full in
-    let sq = fq .full in
-    number-lt (p .steps) (q .steps) (omega arith) (λ i. let s = fp .small i in omega arith) (λ i. let s = fq .small i in omega arith) (p .len) (q .len)
-    ∙ ap₂ (λ k j. lexed k j (ltList ltb (p .steps) (q .steps))) (sym (fp .size)) (sym (fq .size))
-    ∙ ap₂ (λ l m. lexed (length (steps p)) (length (steps q)) (ltList ltb l m)) (fp .array) (fq .array)
-    ∙ pad-before (steps p) (steps q)
+-- ---- paths of addresses of at most six steps, also where a step has become 33
+pub record Digits (l : Address) : Type 0 where
+  pub short : length l ≤ 6
+  pub small : (i : ℕ) → getD l i 0 ≤ 33
 
-pub key-same : (p q : Path) → PathSound p → PathSound q → eqb (number (p .len) (p .steps)) (number (q .len) (q .steps)) ≡ same (steps p) (steps q)
-key-same p q hp hq = both-ways (eqb (number (p .len) (p .steps)) (number (q .len) (q .steps))) (same (steps p) (steps q)) to from
+number-before : (l m : Address) → Digits l → Digits m → ltb (number (length l) (slots 6 0 l)) (number (length m) (slots 6 0 m)) ≡ before l m
+number-before l m a b =
+    number-lt (slots 6 0 l) (slots 6 0 m) (slots-length 6 0 l (a .short) ∙ sym (slots-length 6 0 m (b .short)))
+    (λ i. let s = a .small i in let r = padded l (6 - length l) i in omega arith)
+    (λ i. let s = b .small i in let r = padded m (6 - length m) i in omega arith)
+    (length l) (length m)
+    ∙ pad-before l m
+
+pub key-order : {p u : Path} (l m : Address) → p ≡ pathOf l → u ≡ pathOf m → Digits l → Digits m → ltb (keyOf p) (keyOf u) ≡ before l m
+unfolding pathOf
+key-order l m e f a b = ap₂ (λ (x y : Path). ltb (keyOf x) (keyOf y)) e f ∙ number-before l m a b
+
+-- ---- paths that stand for an address
+path-digits : (p : Path) → PathSound p → Digits (steps p)
+path-digits p h =
+    let f = facts p h in
+    let n = f .size in
+    let s = f .short in
+    record { short = omega arith; small = λ i. let s = f .small i in let r = f .read i in omega arith }
+
+pub key-before : (p q : Path) → PathSound p → PathSound q → ltb (keyOf p) (keyOf q) ≡ before (steps p) (steps q)
+key-before p q hp hq = key-order (steps p) (steps q) (facts p hp .is) (facts q hq .is) (path-digits p hp) (path-digits q hq)
+
+pub key-same : (p q : Path) → PathSound p → PathSound q → eqb (keyOf p) (keyOf q) ≡ same (steps p) (steps q)
+key-same p q hp hq = both-ways (eqb (keyOf p) (keyOf q)) (same (steps p) (steps q)) to from
   where
-    to : eqb (number (p .len) (p .steps)) (number (q .len) (q .steps)) ≡ true → same (steps p) (steps q) ≡ true
+    to : eqb (keyOf p) (keyOf q) ≡ true → same (steps p) (steps q) ≡ true
     to e =
-        let n = number (p .len) (p .steps) in
-        let m = number (q .len) (q .steps) in
+        let n = keyOf p in
+        let m = keyOf q in
         let k = eqb-true n m e in
         let s = neither (steps p) (steps q) (sym (key-before p q hp hq) ∙ le-ltb n m (omega arith)) (sym (key-before q p hq hp) ∙ le-ltb m n (omega arith)) in
         ap (same (steps p)) (sym s) ∙ same-self (steps p)
 
-    from : same (steps p) (steps q) ≡ true → eqb (number (p .len) (p .steps)) (number (q .len) (q .steps)) ≡ true
+    from : same (steps p) (steps q) ≡ true → eqb (keyOf p) (keyOf q) ≡ true
     from e =
         let s = facts p hp .is ∙ ap pathOf (same-true (steps p) (steps q) e) ∙ sym (facts q hq .is) in
-        eq-eqb (number (p .len) (p .steps)) (number (q .len) (q .steps)) (ap (λ (x : Path). number (x .len) (x .steps)) s)
+        eq-eqb (keyOf p) (keyOf q) (ap keyOf s)

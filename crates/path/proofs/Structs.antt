@@ -12,9 +12,10 @@ use lib.Seq.{length-take-le, take-suc, take-suc-set, take-at, set-at, take-all, 
 use borrow.Author.Tests.{ne-eqb, eq-eqb, le-leb, lt-leb}
 use Rattle.laws.specs.Slots.{pick, slots}
 use Rattle.laws.proofs.Fill.{is-fits}
-use Rattle.path.specs.Address.{Address, valid, stepsGood, under, beside, atLast, parent, last, child, within, off}
+use Rattle.path.specs.Address.{Address, valid, stepsGood, under, beside, atLast, parent, last, child, inDepth, off}
 use Rattle.path.specs.View.{steps, asked, pathOf, PathSound, movedOf}
 use Rattle.path.specs.declared.Path.{Path}
+use Rattle.path.specs.declared.RawPath.{RawPath}
 use Rattle.path.specs.declared.Moved.{Moved}
 
 -- ---- tests
@@ -102,27 +103,33 @@ pub valid-small : (l : Address) → T (valid l) → (i : ℕ) → getD l i 0 ≤
 valid-small l t = good-small l (both (leb (length l) 6) (stepsGood l) t .1)
 
 -- ---- what a host's bytes ask for
-pub asked-length : (p : Path) → length (asked p) ≡ p .len
+pub asked-length : (p : RawPath) → length (asked p) ≡ p .len
 asked-length p =
     let r = length-replicate {A = ℕ} (p .len) 0 in
     let a = length-append (p .steps) (replicate (p .len) 0) in
     length-take-le (p .len) (p .steps ++ replicate (p .len) 0) (omega arith)
 
-pub asked-deep : (p : Path) → 6 < p .len → valid (asked p) ≡ false
+pub asked-deep : (p : RawPath) → 6 < p .len → valid (asked p) ≡ false
 asked-deep p h = let n = asked-length p in rw (lt-leb (length (asked p)) 6 (omega arith))
 
-pub asked-steps : (p : Path) → length (p .steps) ≡ 6 → p .len ≤ 6 → asked p ≡ steps p
+pub asked-short : (p : RawPath) → T (valid (asked p)) → p .len ≤ 6
+asked-short p v = let n = asked-length p in let s = valid-short (asked p) v in omega arith
+
+pub asked-steps : (p : RawPath) → length (p .steps) ≡ 6 → p .len ≤ 6 → asked p ≡ take (p .len) (p .steps)
 asked-steps p full h = take-append-le (p .len) (p .steps) (replicate (p .len) 0) (omega arith)
 
-pub asked-good : (p : Path) → length (p .steps) ≡ 6 → p .len ≤ 6 → valid (asked p) ≡ stepsGood (steps p)
+pub asked-good : (p : RawPath) → length (p .steps) ≡ 6 → p .len ≤ 6 → valid (asked p) ≡ stepsGood (take (p .len) (p .steps))
 asked-good p full h =
     let n = length-take-le (p .len) (p .steps) (omega arith) in
-    ap valid (asked-steps p full h) ∙ rw (le-leb (length (steps p)) 6 (omega arith))
+    ap valid (asked-steps p full h) ∙ rw (le-leb (length (take (p .len) (p .steps))) 6 (omega arith))
 
 -- ---- a path that stands for an address
 pub view-path : (l : Address) → steps (pathOf l) ≡ l
 unfolding pathOf
 view-path l = take-at l (replicate (6 - length l) 0) (length l) refl
+
+pub path-valid : {p : Path} → PathSound p → T (valid (steps p))
+path-valid {p} h = is-fits pathOf steps view-path (λ l. T (valid l)) p h
 
 pub record Facts (p : Path) : Type 0 where
   pub short : p .len ≤ 6
@@ -157,17 +164,9 @@ pub path-is : {n : ℕ} {a : List ℕ} (l : Address) → n ≡ length l → a �
 unfolding pathOf
 path-is l e f = λ i. record { len = e i; steps = f i }
 
--- what `canonical` makes of valid bytes
-pub canonical-sound : (p : Path) → length (p .steps) ≡ 6 → T (valid (asked p)) → PathSound (record { len = p .len; steps = slots 6 0 (steps p) })
-canonical-sound p full v =
-    let n = asked-length p in
-    let s = valid-short (asked p) v in
-    let short : p .len ≤ 6 = omega arith in
-    record {
-      model = steps p;
-      same = path-is (steps p) (sym (length-take-le (p .len) (p .steps) (omega arith))) refl;
-      fits = subst (λ l. T (valid l)) (asked-steps p full short) v;
-    }
+-- what `path_of` makes of valid bytes
+pub valid-sound : (p : RawPath) {r : Path} → T (valid (asked p)) → r ≡ pathOf (asked p) → PathSound r
+valid-sound p v e = record { model = asked p; same = e; fits = v }
 
 -- ---- beside
 pub beside-short : (q p : Address) → length p < length q → beside q p ≡ false
@@ -329,11 +328,11 @@ there o t e f = (λ i. record { there = t i; path = e i }) ∙ ap movedOf (sym f
 pub gone : {p : Path} {b : Bool} (o : Option Address) → b ≡ false → p ≡ pathOf [] → o ≡ none → _≡_ {A = Moved} (record { there = b; path = p }) (movedOf o)
 gone o t e f = (λ i. record { there = t i; path = e i }) ∙ ap movedOf (sym f)
 
-pub within-fits : (l : Address) → length l ≤ 6 → within l ≡ some l
-within-fits l h = rw (le-leb (length l) 6 h)
+pub inDepth-fits : (l : Address) → length l ≤ 6 → inDepth l ≡ some l
+inDepth-fits l h = rw (le-leb (length l) 6 h)
 
-pub within-deep : (l : Address) → 6 < length l → within l ≡ none
-within-deep l h = rw (lt-leb (length l) 6 h)
+pub inDepth-deep : (l : Address) → 6 < length l → inDepth l ≡ none
+inDepth-deep l h = rw (lt-leb (length l) 6 h)
 
 -- ---- the parent of a path is a path
 map-and : (a b c : Bool) → (T b → T c) → T (a && b) → T (a && c)
@@ -352,7 +351,7 @@ parent-short (x ∷ y ∷ l) = let h = parent-short (y ∷ l) in omega arith
 
 pub parent-sound : {p r : Path} → PathSound p → r ≡ pathOf (parent (steps p)) → PathSound r
 parent-sound {p} h e =
-    let t = is-fits pathOf steps view-path (λ l. T (valid l)) p h in
+    let t = path-valid h in
     let n = valid-short (steps p) t in
     let m = parent-short (steps p) in
     let g = parent-good (steps p) (both (leb (length (steps p)) 6) (stepsGood (steps p)) t .1) in

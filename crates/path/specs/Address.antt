@@ -101,5 +101,5 @@ abbrev pub on : Address → Address → Address
 on q p = q ++ p
 
 -- an address that is too deep is none
-abbrev pub within : Address → Option Address
-within p = pick (leb (length p) 6) (some p) none
+abbrev pub inDepth : Address → Option Address
+inDepth p = pick (leb (length p) 6) (some p) none

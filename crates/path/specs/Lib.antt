@@ -1,2 +1,3 @@
 pub mod Address
+pub mod Bytes
 pub mod View

@@ -8,6 +8,7 @@ use lib.ListN.{take, length, replicate}
 use Rattle.laws.specs.Slots.{slots, Is}
 use Rattle.path.specs.Address.{Address, valid}
 use Rattle.path.specs.declared.Path.{Path}
+use Rattle.path.specs.declared.RawPath.{RawPath}
 use Rattle.path.specs.declared.Moved.{Moved}
 
 -- the steps that are used
@@ -15,7 +16,7 @@ abbrev pub steps : Path → Address
 steps p = take (p .len) (p .steps)
 
 -- what a host's bytes ask for: as many steps as the length says, 0 where the array has no more
-abbrev pub asked : Path → Address
+abbrev pub asked : RawPath → Address
 asked p = take (p .len) (p .steps ++ replicate (p .len) 0)
 
 -- the struct that stands for an address: unused steps blank
@@ -34,3 +35,7 @@ movedOf (some p) = record { there = true; path = pathOf p }
 abbrev pub number : ℕ → List ℕ → ℕ
 number k [] = k
 number k (x ∷ l) = number (k * 64 + x) l
+
+-- a path's number: its order is the image order
+abbrev pub keyOf : Path → ℕ
+keyOf p = number (p .len) (p .steps)

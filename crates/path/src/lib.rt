@@ -1,16 +1,25 @@
 // Addresses: a path of 0 to 6 steps, each 1 to 32, and how it moves when a branch is put in front of it or taken away.
 //
-// A host's bytes go through `is_valid` and `canonical`, which take any bytes. The other functions are called with paths that
-// stand for an address (`PathSound`): the editor's own, or a host's after these two.
+// Only this crate looks at the steps of a `Path`. A host's bytes are a `RawPath`, which `is_valid` takes as it comes and `path_of`
+// makes a path; an image's are read by `path_at` and written by `put_path`. The other functions are called with paths that stand
+// for an address (`PathSound`).
 ghost use mathlib.Core.Path.{_≡_};
 ghost use mathlib.Core.List.{[]};
-ghost use Prim.Native.Nat.{_<_};
-ghost use lib.ListN.{take};
-ghost use Rattle.laws.specs.Slots.{slots};
-ghost use Rattle.path.specs.Address.{valid, stepsGood, same, before, under, beside, parent, last, child, up, fall, down, off, on, within};
+ghost use Prim.Native.Nat.{_+_, _<_, _≤_};
+ghost use lib.Dec.{T};
+ghost use lib.ListN.{length, getD, take, drop};
+ghost use Rattle.laws.specs.Slots.{put};
+ghost use Rattle.path.specs.Address.{valid, same, before, under, beside, parent, last, child, up, fall, down, off, on, inDepth};
+ghost use Rattle.path.specs.Bytes.{stepBytes, readSteps, stepFits};
 ghost use Rattle.path.specs.View.{steps, asked, pathOf, PathSound, movedOf, number};
 
 pub struct Path {
+    pub len: u8,
+    pub steps: [u8; 6],
+}
+
+// A path as a host gives it: any bytes.
+pub struct RawPath {
     pub len: u8,
     pub steps: [u8; 6],
 }
@@ -24,7 +33,7 @@ pub struct Moved {
 // ---- a host's bytes
 
 // Whether the bytes are a path: at most 6 steps, the used ones 1 to 32. Unused steps are not looked at.
-pub fn is_valid(p: Path) -> bool
+pub fn is_valid(p: RawPath) -> bool
     ensures { λ r. ⌜ r ≡ valid (asked p) ⌝ }
 {
     if 6 < p.len {
@@ -45,11 +54,16 @@ pub fn is_valid(p: Path) -> bool
     true
 }
 
-// The same path with its unused steps blank.
-pub fn canonical(p: Path) -> Path
-    ensures { λ r. ⌜ r ≡ record { len = p .len; steps = slots 6 0 (take (p .len) (p .steps)) } ⌝ }
+// The path that valid bytes are, its unused steps blank.
+pub fn path_of(p: RawPath) -> Path
+    requires { ⌜ T (valid (asked p)) ⌝ }
+    ensures { λ r. ⌜ r ≡ pathOf (asked p) ⌝ }
 {
-    let mut r = p;
+    let s = p.steps;
+    let mut r = Path {
+        len: p.len,
+        steps: s,
+    };
     let mut i = p.len as usize;
     while i < 6 {
         r.steps[i] = 0;
@@ -65,6 +79,63 @@ pub fn root() -> Path
     Path {
         len: 0,
         steps: [0; 6],
+    }
+}
+
+// ---- an image's bytes: the length and six steps, unused ones 0
+
+// The path that the seven bytes from at on are; none where they are no path.
+pub fn path_at(s: &[u8], at: usize) -> Moved
+    requires { ⌜ at + 7 ≤ length (now s) ⌝ }
+    ensures { λ r. ⌜ r ≡ movedOf (readSteps (take 7 (drop at (now (s .entry))))) ⌝ }
+{
+    let len = s[at];
+    if 6 < len {
+        return Moved {
+            there: false,
+            path: root(),
+        };
+    }
+    let first = at + 1;
+    let n = len as usize;
+    let mut r = root();
+    let mut i: usize = 0;
+    while i < 6 {
+        let x = s[first + i];
+        if !step_fits(i, n, x) {
+            return Moved {
+                there: false,
+                path: root(),
+            };
+        }
+        r.steps[i] = x;
+        i += 1;
+    }
+    r.len = len;
+    Moved {
+        there: true,
+        path: r,
+    }
+}
+
+// Whether x may stand as step i, counted from 0, of a path of n steps.
+fn step_fits(i: usize, n: usize, x: u8) -> bool
+    ensures { λ r. ⌜ r ≡ stepFits i n x ⌝ }
+{
+    (i < n) & ((1 <= x) & (x <= 32)) | (n <= i) & (x == 0)
+}
+
+// Writes the seven bytes of p from at on.
+pub fn put_path(out: &mut [u8], at: usize, p: Path)
+    requires { ⌜ PathSound p × (at + 7 ≤ length (now out)) ⌝ }
+    ensures { λ r. ⌜ now (out .exit) ≡ put (now (out .entry)) at (stepBytes (steps p)) ⌝ }
+{
+    out[at] = p.len;
+    let to = at + 1;
+    let mut k: usize = 0;
+    while k < 6 {
+        out[to + k] = p.steps[k];
+        k += 1;
     }
 }
 
@@ -147,6 +218,22 @@ pub fn is_under(p: Path, q: Path) -> bool
 
 // ---- parts
 
+// How many steps p has.
+pub fn size(p: Path) -> usize
+    requires { ⌜ PathSound p ⌝ }
+    ensures { λ r. ⌜ (r ≡ length (steps p)) × (r ≤ 6) ⌝ }
+{
+    p.len as usize
+}
+
+// Step i of p, counted from 0.
+pub fn step_of(p: Path, i: usize) -> u8
+    requires { ⌜ PathSound p × (i < length (steps p)) ⌝ }
+    ensures { λ r. ⌜ r ≡ getD (steps p) i 0 ⌝ }
+{
+    p.steps[i]
+}
+
 // The last step of p, 0 for the root.
 pub fn last_step(p: Path) -> u8
     requires { ⌜ PathSound p ⌝ }
@@ -177,7 +264,7 @@ pub fn parent_of(p: Path) -> Path
 // The path of child s of p; none where that is too deep.
 pub fn child_of(p: Path, s: u8) -> Moved
     requires { ⌜ PathSound p ⌝ }
-    ensures { λ r. ⌜ r ≡ movedOf (within (child (steps p) s)) ⌝ }
+    ensures { λ r. ⌜ r ≡ movedOf (inDepth (child (steps p) s)) ⌝ }
 {
     if 6 <= p.len {
         return Moved {
@@ -280,7 +367,7 @@ pub fn path_off(p: Path, q: Path) -> Moved
 // p with the prefix q put before it; none where that is too deep.
 pub fn path_on(p: Path, q: Path) -> Moved
     requires { ⌜ PathSound p × PathSound q ⌝ }
-    ensures { λ r. ⌜ r ≡ movedOf (within (on (steps q) (steps p))) ⌝ }
+    ensures { λ r. ⌜ r ≡ movedOf (inDepth (on (steps q) (steps p))) ⌝ }
 {
     if 6 < p.len + q.len {
         return Moved {

@@ -61,17 +61,19 @@ last-most {A} {lt} o e x (z ∷ l) (cons b s) y h =
     first (inl p) q = subst (λ (w : A). T (lt w (getD (z ∷ l) (length l) e))) (sym q) (subst (λ (w : A). T (lt x w)) p (b z (List·Memᴰ·head refl)))
     first (inr t) q = subst (λ (w : A). T (lt w (getD (z ∷ l) (length l) e))) (sym q) (o .trans x z (getD (z ∷ l) (length l) e) (b z (List·Memᴰ·head refl)) t)
 
--- after the records l, a record that ascends and fits is appended
-pub load-appends : (l : List (List ℕ)) (d : Dossier) (b : List ℕ) (r : Record) → scan accept 1 [] noRecords l ≡ good d
-    → T (less (getD ([] ∷ l) (length l) []) b) → decode b ≡ some r → T (fits d r) → added d r ≡ appended d r
-load-appends l d b r e t p f = added-last d r (decode-good b r p) earlier f
-  where
-    earlier : (z : Record) → z ∈ recordsOf d → T (inRange z) × T (lessRecord z r)
-    earlier z h =
-        let c = scan-came accept 1 [] noRecords l d e in
-        let m : z ∈ c .read = ⊎-elim (λ k. k) (λ k. absurd (List·Memᴰ·not-nil k)) (runs-back noRecords (c .read) d (c .runs) z h) in
-        let n : encode z ∈ [] ∷ l = List·Memᴰ·tail (subst (λ (x : List (List ℕ)). encode z ∈ x) (c .bytes) (Memᴰ·map encode m)) in
-        let u : T (less (encode z) b) =
-        ⊎-elim (λ q. subst (λ (x : List ℕ). T (less x b)) (sym q) t) (λ q. less-order .trans (encode z) (getD ([] ∷ l) (length l) []) b q t)
-        (last-most less-order [] [] l (c .ascend) (encode z) n) in
-        (c .ranges z m, subst (λ (x : List ℕ). T (less (encode z) x)) (sym (record-back b r p)) u)
+-- after the records l, a record that ascends is behind all of those
+module _ (l : List (List ℕ)) (d : Dossier) (b : List ℕ) (r : Record) (e : scan accept 1 [] noRecords l ≡ good d)
+    (t : T (less (getD ([] ∷ l) (length l) []) b)) (p : decode b ≡ some r) where
+  pub load-behind : (z : Record) → z ∈ recordsOf d → T (inRange z) × T (lessRecord z r)
+  load-behind z h =
+      let c = scan-came accept 1 [] noRecords l d e in
+      let m : z ∈ c .read = ⊎-elim (λ k. k) (λ k. absurd (List·Memᴰ·not-nil k)) (runs-back noRecords (c .read) d (c .runs) z h) in
+      let n : encode z ∈ [] ∷ l = List·Memᴰ·tail (subst (λ (x : List (List ℕ)). encode z ∈ x) (c .bytes) (Memᴰ·map encode m)) in
+      let u : T (less (encode z) b) =
+      ⊎-elim (λ q. subst (λ (x : List ℕ). T (less x b)) (sym q) t) (λ q. less-order .trans (encode z) (getD ([] ∷ l) (length l) []) b q t)
+      (last-most less-order [] [] l (c .ascend) (encode z) n) in
+      (c .ranges z m, subst (λ (x : List ℕ). T (less (encode z) x)) (sym (record-back b r p)) u)
+
+  -- and if it fits it is appended
+  pub load-appends : T (fits d r) → added d r ≡ appended d r
+  load-appends f = added-last d r (decode-good b r p) load-behind f

@@ -43,7 +43,7 @@ node-less r s t = by-parts (nodeRecord r) (nodeRecord s) refl (go (lex2-cases be
         inr (w .0, append-same (0 ∷ 0 ∷ []) (r .1 ∷ z) (s .1 ∷ z) (lex2-left ltb ℕ-order (r .1) (s .1) (less z z) (w .1)))
 
 -- "no second record for one .. attribute": path and name decide
-attribute-less : (r s : Row Attribute) → (r .0 ≡ s .0 → r .1 .name ≡ s .1 .name → ⊥) → T (beforeAttribute r s) → T (lessRecord (attributeRecord r) (attributeRecord s))
+pub attribute-less : (r s : Row Attribute) → (r .0 ≡ s .0 → r .1 .name ≡ s .1 .name → ⊥) → T (beforeAttribute r s) → T (lessRecord (attributeRecord r) (attributeRecord s))
 attribute-less r s n t = by-parts (attributeRecord r) (attributeRecord s) refl (go (lex2-cases before address-order (r .0) (s .0) (ltAttribute (r .1) (s .1)) t))
   where
     tail : Attribute → List ℕ

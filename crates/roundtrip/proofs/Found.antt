@@ -96,7 +96,7 @@ grant-there p n g d h = second-in (λ a. eqb a n) n (λ a. eqb→eq a n) (eqb-re
 
 -- ---- objects
 -- one that is there has the permissions that the table has for it
-object-permissions : (p : Address) (n : ℕ) (d : Dossier) → T (there (objectAt p n d)) → permissionsOf (objectAt p n d) ≡ permissionsFor p n d
+pub object-permissions : (p : Address) (n : ℕ) (d : Dossier) → T (there (objectAt p n d)) → permissionsOf (objectAt p n d) ≡ permissionsFor p n d
 object-permissions p n d = go (eqb n 0) (eqb→eq n 0)
   where
     of : {A : Type 0} (f : A → Object) (o : Option A) → ((a : A) → f a .permissions ≡ permissionsFor p n d) → T (there (Option·map f o)) → permissionsOf (Option·map f o) ≡ permissionsFor p n d

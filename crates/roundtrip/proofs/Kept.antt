@@ -52,10 +52,10 @@ module _ (d : Dossier) (s : Sound d) (r : Row ℕ) (g : T (inRange (nodeRecord r
         above = λ z h. new-or-old (λ y. T (isRoot (y .0) || there (nodeAt (parent (y .0)) nodeMore))) r z (d .nodes)
             (or-else (isRoot (r .0)) (a && b) (there (nodeAt (parent (r .0)) nodeMore)) (λ n u. more (parent (r .0)) (and-yes a b u .0)) (parts .1))
             (λ y k. or-else (isRoot (y .0)) (there (nodeAt (parent (y .0)) d)) (there (nodeAt (parent (y .0)) nodeMore)) (λ n u. more (parent (y .0)) u) (s .above y k)) (back z h);
-        beside = λ z h. new-or-old (λ y. T (isRoot (y .0) || (eqb (last (y .0)) 1 || there (nodeAt (left (y .0)) nodeMore)))) r z (d .nodes)
-            (or-else (isRoot (r .0)) (a && b) (eqb (last (r .0)) 1 || there (nodeAt (left (r .0)) nodeMore)) (λ n u. beside-more (r .0) (and-yes a b u .1)) (parts .1))
+        left-there = λ z h. new-or-old (λ y. T (isRoot (y .0) || (eqb (last (y .0)) 1 || there (nodeAt (left (y .0)) nodeMore)))) r z (d .nodes)
+            (or-else (isRoot (r .0)) (a && b) (eqb (last (r .0)) 1 || there (nodeAt (left (r .0)) nodeMore)) (λ n u. left-more (r .0) (and-yes a b u .1)) (parts .1))
             (λ y k. or-else (isRoot (y .0)) (eqb (last (y .0)) 1 || there (nodeAt (left (y .0)) d)) (eqb (last (y .0)) 1 || there (nodeAt (left (y .0)) nodeMore))
-            (λ n u. beside-more (y .0) u) (s .beside y k)) (back z h);
+            (λ n u. left-more (y .0) u) (s .left-there y k)) (back z h);
         on-node = λ z h. more (z .0) (s .on-node z h);
         on-object = λ z h. object-kept (z .0) (z .1 .0) d nodeMore (more-nodes (z .0)) (λ x m. m) (s .on-object z h);
         one-node = λ q o o′ h h′. one q o o′ (back (q, o) h) (back (q, o′) h′);
@@ -91,8 +91,8 @@ module _ (d : Dossier) (s : Sound d) (r : Row ℕ) (g : T (inRange (nodeRecord r
       one q o o′ (inr h) (inl e) = absurd (T-not (there (nodeAt (r .0) d)) (parts .0) (subst (λ (x : Address). T (there (nodeAt x d))) (λ i. e i .0) (node-there q o d h)))
       one q o o′ (inr h) (inr h′) = s .one-node q o o′ h h′
 
-      beside-more : (q : Address) → T (eqb (last q) 1 || there (nodeAt (left q) d)) → T (eqb (last q) 1 || there (nodeAt (left q) nodeMore))
-      beside-more q u = or-else (eqb (last q) 1) (there (nodeAt (left q) d)) (there (nodeAt (left q) nodeMore)) (λ n v. more (left q) v) u
+      left-more : (q : Address) → T (eqb (last q) 1 || there (nodeAt (left q) d)) → T (eqb (last q) 1 || there (nodeAt (left q) nodeMore))
+      left-more q u = or-else (eqb (last q) 1) (there (nodeAt (left q) d)) (there (nodeAt (left q) nodeMore)) (λ n v. more (left q) v) u
 
 -- ---- one more attribute
 module _ (d : Dossier) (s : Sound d) (r : Row Attribute) (g : T (inRange (attributeRecord r)))
@@ -111,7 +111,7 @@ module _ (d : Dossier) (s : Sound d) (r : Row Attribute) (g : T (inRange (attrib
         permissions-good = s .permissions-good;
         root = s .root;
         above = s .above;
-        beside = s .beside;
+        left-there = s .left-there;
         on-node = λ z h. new-or-old (λ y. T (there (nodeAt (y .0) d))) r z (d .attributes) (parts .0) (s .on-node) (back z h);
         on-object = λ z h. object-kept (z .0) (z .1 .0) d attributeMore (λ o m. m) (λ a m. insert-old beforeAttribute attributes-order r (z .0, a) (d .attributes) m) (s .on-object z h);
         one-node = s .one-node;
@@ -181,8 +181,8 @@ module _ (d : Dossier) (s : Sound d) (r : Row (ℕ × Permission)) (g : T (inRan
         permissions-good = λ z h. new-or-old (λ y. T (inRange (permissionRecord y))) r z (d .permissions) g (s .permissions-good) (back z h);
         root = more [] (s .root);
         above = λ z h. or-else (isRoot (z .0)) (there (nodeAt (parent (z .0)) d)) (there (nodeAt (parent (z .0)) permissionMore)) (λ n u. more (parent (z .0)) u) (s .above z h);
-        beside = λ z h. or-else (isRoot (z .0)) (eqb (last (z .0)) 1 || there (nodeAt (left (z .0)) d)) (eqb (last (z .0)) 1 || there (nodeAt (left (z .0)) permissionMore))
-            (λ n. or-else (eqb (last (z .0)) 1) (there (nodeAt (left (z .0)) d)) (there (nodeAt (left (z .0)) permissionMore)) (λ m u. more (left (z .0)) u)) (s .beside z h);
+        left-there = λ z h. or-else (isRoot (z .0)) (eqb (last (z .0)) 1 || there (nodeAt (left (z .0)) d)) (eqb (last (z .0)) 1 || there (nodeAt (left (z .0)) permissionMore))
+            (λ n. or-else (eqb (last (z .0)) 1) (there (nodeAt (left (z .0)) d)) (there (nodeAt (left (z .0)) permissionMore)) (λ m u. more (left (z .0)) u)) (s .left-there z h);
         on-node = λ z h. more (z .0) (s .on-node z h);
         on-object = λ z h. object-more (z .0) (z .1 .0) (new-or-old (λ y. T (there (objectAt (y .0) (y .1 .0) d))) r z (d .permissions) (parts .0) (s .on-object) (back z h));
         one-node = s .one-node;

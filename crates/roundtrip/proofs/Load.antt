@@ -91,7 +91,7 @@ module _ (d : Dossier) (s : Sound d) where
       (or-else (isRoot p) (there (nodeAt (parent p) d)) (there (nodeAt (parent p) st)) (λ n t. earlier (parent p) (parent-before p n) t) (s .above r in-d))
       (or-else (isRoot p) (eqb (last p) 1 || there (nodeAt (left p) d)) (eqb (last p) 1 || there (nodeAt (left p) st))
       (λ n. or-else (eqb (last p) 1) (there (nodeAt (left p) d)) (there (nodeAt (left p) st)) (λ k t. earlier (left p) (left-before p (path-valid (nodeRecord r) (s .nodes-good r in-d)) n) t))
-      (s .beside r in-d)))
+      (s .left-there r in-d)))
       (cut-room l r m e 64 (s .few-nodes))))
     where
       p : Address

@@ -8,7 +8,7 @@ use Prim.Native.Nat.{ℕ, suc, _≤_}
 use native.Mathlib.Omega.{arith}
 use lib.Dec.{T, ltb, lt→ltb}
 use lib.ListN.{length, length-append}
-use Rattle.laws.specs.Sorted.{_∈_, StrictOrder, Sorted, nil, cons, step, insert, push, move}
+use Rattle.laws.specs.Sorted.{_∈_, StrictOrder, Sorted, nil, cons, insertBy, insert, push, move}
 use Rattle.laws.proofs.Sorted.{insert-later}
 
 module _ {A : Type 0} {lt : A → A → Bool} where
@@ -93,15 +93,15 @@ module _ {A B : Type 0} (f : A → Option B) where
   push-both (some b) none l m h = h
   push-both (some b) (some c) l m h = omega arith
 
-  step-long : (b c : Bool) (x y : A) (l r : List A) → length (move f r) ≤ length (push (f x) (move f l))
-      → length (move f (step b c x y l r)) ≤ length (push (f x) (push (f y) (move f l)))
-  step-long true c x y l r h = omega arith
-  step-long false true x y l r h = push-both (f x) (f y) (move f l) (move f r) h
-  step-long false false x y l r h = push-more (f x) (push (f y) (move f l))
+  insertBy-long : (b c : Bool) (x y : A) (l r : List A) → length (move f r) ≤ length (push (f x) (move f l))
+      → length (move f (insertBy b c x y l r)) ≤ length (push (f x) (push (f y) (move f l)))
+  insertBy-long true c x y l r h = omega arith
+  insertBy-long false true x y l r h = push-both (f x) (f y) (move f l) (move f r) h
+  insertBy-long false false x y l r h = push-more (f x) (push (f y) (move f l))
 
   pub insert-long : (lt : A → A → Bool) (x : A) (l : List A) → length (move f (insert lt x l)) ≤ length (push (f x) (move f l))
   insert-long lt x [] = omega arith
-  insert-long lt x (y ∷ l) = step-long (lt x y) (lt y x) x y l (insert lt x l) (insert-long lt x l)
+  insert-long lt x (y ∷ l) = insertBy-long (lt x y) (lt y x) x y l (insert lt x l) (insert-long lt x l)
 
   push-append : (o : Option B) (l m : List B) → push o (l ++ m) ≡ push o l ++ m
   push-append none l m = refl

@@ -10,19 +10,20 @@ use lib.IntN.{ℤ}
 use lib.Signed.{leZ}
 use lib.Ieee.{ofBits, toBits, fits, binary32}
 use lib.Ieee.Bits.{ofBits-toBits}
-use lib.Dec.{T, eqb, leb, leb→le, eqb→eq, eqb-refl}
+use lib.Dec.{T, leb, leb→le}
 use lib.ListN.{length, take, drop, getD, replicate, length-append, length-replicate}
 use lib.Seq.{take-at}
 use mir.Syntax.{w64}
 use mir.Val.{toZ, ofZ}
 use mir.ValLaws.{toZ-ofZ}
 use mir.Facts.{and-yes, yes-and}
-use Rattle.laws.specs.Slots.{pick, slots}
+use Rattle.laws.specs.Slots.{pick, slots, sameBytes}
+use Rattle.laws.proofs.Same.{same-bytes, bytes-same}
 use Rattle.path.specs.Address.{Address, stepsGood, valid}
 use Rattle.path.proofs.Moves.{pick-yes}
 use Rattle.model.specs.Things.{Value, whole, reading, Attribute, Permission, Row}
 use Rattle.model.specs.Refusals.{between, userGood, roleGood, nameGood, timeGood, finite, valueGood, permissionGood}
-use Rattle.model.specs.Image.{bytes2, bytes4, bytes8, Record, nodeRecord, attributeRecord, permissionRecord, valueKind, valueBits, front, encode, readValue, parse, inRange, sameBytes, decode}
+use Rattle.model.specs.Image.{bytes2, bytes4, bytes8, Record, nodeRecord, attributeRecord, permissionRecord, valueKind, valueBits, front, encode, readValue, parse, inRange, decode}
 use Rattle.roundtrip.proofs.Checks.{let-in}
 use Rattle.roundtrip.proofs.Bytes.{two-back, four-back, again4, eight-back, time-fits}
 
@@ -70,7 +71,7 @@ path-short : (r : Record) → T (inRange r) → length (pathOf r) ≤ 6
 path-short r g = let p = pathOf r in leb→le (length p) 6 (and-yes (leb (length p) 6) (stepsGood p) (path-valid r g) .0)
 
 -- ---- 40 bytes
-slots-length : (p : Address) → length p ≤ 6 → length (slots 6 0 p) ≡ 6
+pub slots-length : (p : Address) → length p ≤ 6 → length (slots 6 0 p) ≡ 6
 slots-length p h = let e = length-replicate {A = ℕ} (6 - length p) 0 in length-append p (replicate (6 - length p) 0) ∙ omega arith
 
 rest-length : (r : Record) → length (restOf r) ≡ 32
@@ -78,20 +79,23 @@ rest-length (nodeRecord r) = refl
 rest-length (attributeRecord r) = refl
 rest-length (permissionRecord r) = refl
 
-pub encode-length : (r : Record) → T (inRange r) → length (encode r) ≡ 40
-encode-length r g =
-    let e = slots-length (pathOf r) (path-short r g) in
+pub record-length : (r : Record) → length (pathOf r) ≤ 6 → length (encode r) ≡ 40
+record-length r h =
+    let e = slots-length (pathOf r) h in
     let f = rest-length r in
     let d = length-append (slots 6 0 (pathOf r)) (restOf r) in
     ap (λ (b : List ℕ). length b) (laid r) ∙ omega arith
 
+pub encode-length : (r : Record) → T (inRange r) → length (encode r) ≡ 40
+encode-length r g = record-length r (path-short r g)
+
 -- ---- there
 -- n elements, spelt out
-abbrev spelt : ℕ → List ℕ → List ℕ
+abbrev pub spelt : ℕ → List ℕ → List ℕ
 spelt zero l = []
 spelt (suc n) l = getD l 0 0 ∷ spelt n (drop 1 l)
 
-spelt-out : (n : ℕ) (l : List ℕ) → length l ≡ n → l ≡ spelt n l
+pub spelt-out : (n : ℕ) (l : List ℕ) → length l ≡ n → l ≡ spelt n l
 spelt-out zero [] e = refl
 spelt-out zero (x ∷ l) e = absurd (omega arith)
 spelt-out (suc n) [] e = absurd (omega arith)
@@ -161,16 +165,6 @@ parse-back (permissionRecord r) g =
         },
       ),
     ))
-
-same-bytes : (b : List ℕ) → T (sameBytes b b)
-same-bytes [] = tt
-same-bytes (x ∷ b) = yes-and (eqb x x) (sameBytes b b) (eqb-refl x) (same-bytes b)
-
-bytes-same : (a b : List ℕ) → T (sameBytes a b) → a ≡ b
-bytes-same [] [] t = refl
-bytes-same [] (y ∷ b) t = absurd t
-bytes-same (x ∷ a) [] t = absurd t
-bytes-same (x ∷ a) (y ∷ b) t = let w = and-yes (eqb x y) (sameBytes a b) t in λ i. eqb→eq x y (w .0) i ∷ bytes-same a b (w .1) i
 
 pub record-trip : (r : Record) → T (inRange r) → decode (encode r) ≡ some r
 record-trip r g =

@@ -39,7 +39,7 @@ bare-sound u g =
       permissions-good = λ r h. absurd (List·Memᴰ·not-nil h);
       root = tt;
       above = λ r h. only (λ y. T (isRoot (y .0) || there (nodeAt (parent (y .0)) (bare u)))) r h tt;
-      beside = λ r h. only (λ y. T (isRoot (y .0) || (eqb (last (y .0)) 1 || there (nodeAt (left (y .0)) (bare u))))) r h tt;
+      left-there = λ r h. only (λ y. T (isRoot (y .0) || (eqb (last (y .0)) 1 || there (nodeAt (left (y .0)) (bare u))))) r h tt;
       on-node = λ r h. absurd (List·Memᴰ·not-nil h);
       on-object = λ r h. absurd (List·Memᴰ·not-nil h);
       one-node = λ p o o′ h h′. let e = List·Memᴰ·eq-of-singleton h in let e′ = List·Memᴰ·eq-of-singleton h′ in λ i. (e ∙ sym e′) i .1;
@@ -68,7 +68,7 @@ only-root (permissionRecord r) g t = absurd (go (eqb (r .1 .0) 0) t)
     go true s = s
     go false s = s
 
-first-sound : (r : Record) (e : Dossier) → T (inRange r) → accept noRecords r ≡ some e → Sound e
+pub first-sound : (r : Record) (e : Dossier) → T (inRange r) → accept noRecords r ≡ some e → Sound e
 first-sound r e g p = let w = accepted noRecords r e p in subst Sound (w .1) (only-root r g (w .0))
 
 -- ---- each further record

@@ -1,20 +1,23 @@
 -- Laws of what is asked of a table, row by row, for any row type: a first hit, a count, the deepest path. Assumes nothing.
-use mathlib.Core.Path.{_≡_, refl, sym, ap, _∙_}
+use mathlib.Core.Path.{_≡_, refl, sym, ap, subst, _∙_}
+use mathlib.Core.Logic.{_⊎_, inl, inr, ⊎-elim}
 use mathlib.Core.Bool.{Bool, true, false, _&&_}
 use mathlib.Core.Option.{Option, none, some}
-use mathlib.Core.List.{List, [], _∷_}
+use mathlib.Core.List.{List, [], _∷_, _++_, List·Memᴰ·head, Memᴰ·append-right}
 use Prim.Native.Nat.{ℕ, _+_, _-_, _≤_, max}
 use native.Mathlib.Omega.{arith}
-use lib.Dec.{eqb}
+use lib.Dec.{T, eqb, ltb, ltb→lt}
 use lib.ListN.{length, drop, length-drop}
 use Rattle.laws.specs.Slots.{pick}
-use Rattle.laws.specs.Sorted.{push, move}
-use Rattle.path.specs.declared.Path.{Path}
-use Rattle.path.specs.Address.{Address, same, under, off}
-use Rattle.path.specs.View.{steps, PathSound}
-use Rattle.path.proofs.Structs.{no, facts, off-under, off-not}
+use Rattle.laws.specs.Order.{ltList, ltPair}
+use Rattle.laws.specs.Sorted.{Sorted, cons, push, move}
+use Rattle.laws.proofs.Order.{ℕ-order, lex2-cases}
+use Rattle.laws.proofs.Last.{Ends}
+use Rattle.path.specs.Address.{Address, before, same, under, off}
+use Rattle.path.proofs.Laws.{address-order}
+use Rattle.path.proofs.Structs.{no, off-under, off-not}
 use Rattle.model.specs.Things.{Row, Attribute, Permission}
-use Rattle.model.specs.Moves.{carry, carried, at, head, oneStep, attributeIn, permissionsIn, deepest, sameTime, samePermission, holds}
+use Rattle.model.specs.Moves.{carry, carried, at, head, oneStep, attributeIn, permissionsIn, deepest, sameTime, samePermission}
 use Rattle.model.specs.Image.{there}
 
 -- ---- whether a row gives anything
@@ -71,36 +74,33 @@ module _ {P C : Type 0} (p : Address) (t : P → Bool) (h : P → C) where
   abbrev here : List (Row P) → List C
   here l = move held (move (at p) l)
 
-  here-hit : (r : Row P) (l : List (Row P)) → (t (r .1) && same (r .0) p) ≡ true → here (r ∷ l) ≡ h (r .1) ∷ here l
-  here-hit r l e = go (t (r .1)) (same (r .0) p) e refl
+  here-row : (r : Row P) (l : List (Row P)) → here (r ∷ l) ≡ push (pick (t (r .1) && same (r .0) p) (some (h (r .1))) none) (here l)
+  here-row r l = go (t (r .1)) (same (r .0) p) refl
     where
-      go : (a b : Bool) → (a && b) ≡ true → t (r .1) ≡ a → move held (push (pick b (some (r .1)) none) (move (at p) l)) ≡ h (r .1) ∷ here l
-      go true true e f = rw f
-      go true false e f = no (sym e)
-      go false b e f = no (sym e)
-
-  here-miss : (r : Row P) (l : List (Row P)) → (t (r .1) && same (r .0) p) ≡ false → here (r ∷ l) ≡ here l
-  here-miss r l e = go (t (r .1)) (same (r .0) p) e refl
-    where
-      go : (a b : Bool) → (a && b) ≡ false → t (r .1) ≡ a → move held (push (pick b (some (r .1)) none) (move (at p) l)) ≡ here l
-      go true true e f = no e
-      go false true e f = rw f
-      go a false e f = refl
+      go : (a b : Bool) → t (r .1) ≡ a → move held (push (pick b (some (r .1)) none) (move (at p) l)) ≡ push (pick (a && b) (some (h (r .1))) none) (here l)
+      go true true e = rw e
+      go true false e = refl
+      go false true e = rw e
+      go false false e = refl
 
 module _ (p : Address) (n : ℕ) where
   module _ (r : Row Attribute) (l : List (Row Attribute)) where
+    attribute-row : attributeIn p n (r ∷ l) ≡ head (push (pick (eqb (r .1 .name) n && same (r .0) p) (some (r .1)) none) (move (λ a. pick (eqb (a .name) n) (some a) none) (move (at p) l)))
+    attribute-row = ap head (here-row p (λ a. eqb (a .name) n) (λ a. a) r l)
+
     pub attribute-hit : (eqb (r .1 .name) n && same (r .0) p) ≡ true → attributeIn p n (r ∷ l) ≡ some (r .1)
-    attribute-hit e = ap head (here-hit p (λ a. eqb (a .name) n) (λ a. a) r l e)
+    attribute-hit e = attribute-row ∙ rw e
 
     pub attribute-miss : (eqb (r .1 .name) n && same (r .0) p) ≡ false → attributeIn p n (r ∷ l) ≡ attributeIn p n l
-    attribute-miss e = ap head (here-miss p (λ a. eqb (a .name) n) (λ a. a) r l e)
+    attribute-miss e = attribute-row ∙ rw e
 
-  module _ (g : Permission) (r : Row (ℕ × Permission)) (l : List (Row (ℕ × Permission))) where
-    pub holds-hit : (eqb (r .1 .0) n && same (r .0) p) ≡ true → (b : Bool) → samePermission g (r .1 .1) ≡ b → holds g (permissionsIn p n (r ∷ l)) ≡ pick b true (holds g (permissionsIn p n l))
-    holds-hit e b f = ap (holds g) (here-hit p (λ m. eqb (m .0) n) (λ m. m .1) r l e) ∙ rw f
+  module _ (r : Row (ℕ × Permission)) (l : List (Row (ℕ × Permission))) where
+    -- one row gives its permission, or nothing
+    pub permissions-row : permissionsIn p n (r ∷ l) ≡ push (pick (eqb (r .1 .0) n && same (r .0) p) (some (r .1 .1)) none) (permissionsIn p n l)
+    permissions-row = here-row p (λ m. eqb (m .0) n) (λ m. m .1) r l
 
-    pub holds-miss : (eqb (r .1 .0) n && same (r .0) p) ≡ false → holds g (permissionsIn p n (r ∷ l)) ≡ holds g (permissionsIn p n l)
-    holds-miss e = ap (holds g) (here-miss p (λ m. eqb (m .0) n) (λ m. m .1) r l e)
+    pub permissions-miss : (eqb (r .1 .0) n && same (r .0) p) ≡ false → permissionsIn p n (r ∷ l) ≡ permissionsIn p n l
+    permissions-miss e = permissions-row ∙ rw e
 
 -- ---- children
 pub child-not : (q p : Address) → (length p ≡ length q + 1 → ⊥) → there (oneStep (off q p)) ≡ false
@@ -126,20 +126,12 @@ child-under (x ∷ q) (y ∷ p) e = go (eqb x y) (child-under q p (omega arith))
     go false h = refl
 
 -- ---- the deepest path
--- the steps below q
-module _ (p q : Path) (hp : PathSound p) (hq : PathSound q) (u : under (steps q) (steps p) ≡ true) where
-  pub below-room : q .len ≤ p .len
-  below-room =
-      let le = off-under (steps q) (steps p) u .1 in
-      let sp = facts p hp .size in
-      let sq = facts q hq .size in
-      omega arith
-
-  pub below-size : length (drop (length (steps q)) (steps p)) ≡ p .len - q .len
-  below-size =
-      let sp = facts p hp .size in
-      let sq = facts q hq .size in
-      length-drop (length (steps q)) (steps p) ∙ omega arith
+-- the steps below q, from the two lengths
+pub below-size : (q p : Address) → under q p ≡ true → {j k : ℕ} → j ≡ length p → k ≡ length q → (k ≤ j) × (j - k ≡ length (drop (length q) p))
+below-size q p u e f =
+    let le = off-under q p u .1 in
+    let d = length-drop (length q) p in
+    (omega arith, omega arith)
 
 module _ {P : Type 0} (q : Address) {whole : ℕ} (most : ℕ) {l : List (Row P)} (r : Row P) (l′ : List (Row P)) (inv : max most (deepest (carried (off q) l)) ≡ whole) (e : l ≡ r ∷ l′) where
   deep : max most (deepest (carried (off q) (r ∷ l′))) ≡ whole
@@ -152,6 +144,25 @@ module _ {P : Type 0} (q : Address) {whole : ℕ} (most : ℕ) {l : List (Row P)
 
   pub deep-miss : under q (r .0) ≡ false → max most (deepest (carried (off q) l′)) ≡ whole
   deep-miss u = rw (off-not q (r .0) u) at deep
+
+-- rows are in order of the length of their paths first: the last path is a longest one
+module _ {P : Type 0} (lt : P → P → Bool) where
+  longer : (r s : Row P) → T (ltPair before lt r s) → length (r .0) ≤ length (s .0)
+  longer r s t = ⊎-elim (λ u. first (lex2-cases ltb ℕ-order (length (r .0)) (length (s .0)) (ltList ltb (r .0) (s .0)) u)) (λ w. let e = ap length (w .0) in omega arith) (lex2-cases before address-order (r .0) (s .0) (lt (r .1) (s .1)) t)
+    where
+      first : T (ltb (length (r .0)) (length (s .0))) ⊎ ((length (r .0) ≡ length (s .0)) × T (ltList ltb (r .0) (s .0))) → length (r .0) ≤ length (s .0)
+      first (inl u) = let h = ltb→lt (length (r .0)) (length (s .0)) u in omega arith
+      first (inr w) = let e = w .0 in omega arith
+
+  last-deepest : (k : List (Row P)) (r : Row P) → Sorted (ltPair before lt) (k ++ (r ∷ [])) → deepest (k ++ (r ∷ [])) ≡ length (r .0)
+  last-deepest [] r s = omega arith
+  last-deepest (x ∷ k) r (cons h s) =
+      let e = last-deepest k r s in
+      let m = longer x r (h r (Memᴰ·append-right k (List·Memᴰ·head refl))) in
+      omega arith
+
+  pub deepest-last : {l k : List (Row P)} {r : Row P} → Sorted (ltPair before lt) l → Ends l k r → deepest l ≡ length (r .0)
+  deepest-last {k = k} {r} s e = ap deepest (e .ends) ∙ last-deepest k r (subst (Sorted (ltPair before lt)) (e .ends) s)
 
 -- ---- the same permission
 pub all-fields : (g h : Permission) (t : Bool) → t ≡ (sameTime (g .first) (h .first) && sameTime (g .last) (h .last))

@@ -11,7 +11,7 @@ use borrow.Author.Tests.{ltb-true, ltb-false, le-ltb, eq-eqb, ne-eqb}
 use Rattle.laws.specs.Order.{lex, ltList}
 use Rattle.path.specs.declared.Path.{Path}
 use Rattle.path.specs.Address.{Address, same, before}
-use Rattle.path.specs.View.{steps, PathSound, number}
+use Rattle.path.specs.View.{steps, PathSound, keyOf}
 use Rattle.path.proofs.Laws.{address-order, same-self}
 use Rattle.path.proofs.Number.{key-before}
 use Rattle.model.specs.Things.{Permission, ltTime, ltPermission}
@@ -59,7 +59,7 @@ listed-same : (x y : ℕ) (k l : List ℕ) (c : Bool) → x ≡ y → listed (x 
 listed-same x y k l c e = ap₂ (λ a b. lex a b c) (lexed-same x y (ltList ltb k l) e) (lexed-same y x (ltList ltb l k) (sym e))
 
 -- ---- paths, by their keys
-pub keyed : (p q : Path) → PathSound p → PathSound q → (j k : ℕ) → j ≡ number (p .len) (p .steps) → k ≡ number (q .len) (q .steps)
+pub keyed : (p q : Path) → PathSound p → PathSound q → (j k : ℕ) → j ≡ keyOf p → k ≡ keyOf q
     → (c : Bool) → lexed j k c ≡ lex (before (steps p) (steps q)) (before (steps q) (steps p)) c
 keyed p q hp hq j k e f c = ap₂ (λ a b. lex a b c) (ap₂ ltb e f ∙ key-before p q hp hq) (ap₂ ltb f e ∙ key-before q p hq hp)
 

@@ -3,3 +3,5 @@ pub mod Compare
 pub mod Asked
 pub mod Parts
 pub mod Tables
+pub mod Places
+pub mod Walk

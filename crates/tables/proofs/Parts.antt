@@ -11,9 +11,9 @@ use Rattle.path.specs.Address.{valid}
 use Rattle.path.proofs.Structs.{both}
 use Rattle.model.specs.Things as things
 use Rattle.model.specs.Things.{Row}
-use Rattle.model.specs.Sound.{Sound, Fits}
+use Rattle.model.specs.Sound.{Sound}
 use Rattle.tables.specs.declared.Dossier.{Dossier}
-use Rattle.tables.specs.View.{NodesSound, AttributesSound, PermissionsSound, TablesFit, DossierFits, DossierSound}
+use Rattle.tables.specs.View.{NodesSound, AttributesSound, PermissionsSound, TablesFit, DossierFits, DossierSound, Fits}
 
 all : {A : Type 0} (P : A → Type 0) (l : List A) → ((x : A) → x ∈ l → P x) → All P l
 all P [] h = tt

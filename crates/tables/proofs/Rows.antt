@@ -1,7 +1,7 @@
 -- Rows and tables that stand for the model's: seeing undoes standing for, a row's path is sound, a sound table holds its rows. Assumes nothing.
-use mathlib.Core.Path.{_≡_, refl, ap, _∙_}
+use mathlib.Core.Path.{_≡_, refl, ap, ap₂, _∙_}
 use mathlib.Core.Bool.{Bool}
-use mathlib.Core.List.{List, map}
+use mathlib.Core.List.{List, [], _∷_, map, map-map, map-id}
 use Prim.Native.Nat.{ℕ}
 use lib.ListN.{length}
 use Rattle.laws.specs.Slots.{slots, Is}
@@ -11,7 +11,7 @@ use Rattle.path.specs.View.{pathOf, PathSound}
 use Rattle.path.proofs.Structs.{view-path}
 use Rattle.model.specs.Things as things
 use Rattle.model.specs.Things.{Row}
-use Rattle.model.specs.Sound.{Fits}
+use Rattle.model.specs.Moves.{grantRow, head}
 use Rattle.tables.specs.declared.Value.{Value}
 use Rattle.tables.specs.declared.Value.the-variants.{Whole, Reading}
 use Rattle.tables.specs.declared.Node.{Node}
@@ -20,7 +20,12 @@ use Rattle.tables.specs.declared.Permission.{Permission}
 use Rattle.tables.specs.declared.Nodes.{Nodes}
 use Rattle.tables.specs.declared.Attributes.{Attributes}
 use Rattle.tables.specs.declared.Permissions.{Permissions}
-use Rattle.tables.specs.View.{AtPath, viewValue, valueOf, viewNode, nodeOf, viewAttribute, attributeOf, viewPermission, permissionOf, NodeSound, AttributeSound, PermissionSound, blankNode, blankAttribute, blankPermission, viewNodes, nodesOf, NodesSound, viewAttributes, attributesOf, AttributesSound, viewPermissions, permissionsOf, PermissionsSound, viewDossier, dossierOf}
+use Rattle.tables.specs.View.{AtPath, blankPath, viewValue, valueOf, viewNode, nodeOf, viewAttribute, attributeOf, viewPermission, permissionOf, NodeSound, AttributeSound, PermissionSound, blankNode, blankAttribute, blankPermission, viewNodes, nodesOf, NodesSound, viewAttributes, attributesOf, AttributesSound, viewPermissions, permissionsOf, PermissionsSound, viewDossier, dossierOf, viewSingle, viewClipboard, clipboardOf, Fits}
+
+-- ---- a blank row's path is the root's
+pub blank-path : pathOf [] ≡ blankPath
+unfolding pathOf
+blank-path = refl
 
 -- ---- values
 pub value-back : (v : things.Value) → viewValue (valueOf v) ≡ v
@@ -104,3 +109,11 @@ view-permissions = seen permissionOf viewPermission view-permission 128 blankPer
 -- ---- a dossier
 pub view-dossier : (d : things.Dossier) → viewDossier (dossierOf d) ≡ d
 view-dossier d = λ i. record { nodes = view-nodes (d .nodes) i; attributes = view-attributes (d .attributes) i; permissions = view-permissions (d .permissions) i }
+
+-- ---- a clipboard
+pub view-clipboard : (c : things.Clipboard) → viewClipboard (clipboardOf c) ≡ c
+view-clipboard things.empty = refl
+view-clipboard (things.branch d) = ap things.branch (view-dossier d)
+view-clipboard (things.single a l) =
+    ap₂ (λ x y. viewSingle (head x) y) (view-attributes (([], a) ∷ [])) (view-permissions (map (grantRow [] (a .name)) l))
+    ∙ ap (things.single a) (map-map (λ (r : Row (ℕ × things.Permission)). r .1 .1) (grantRow [] (a .name)) l ∙ map-id l)

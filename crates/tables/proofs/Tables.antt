@@ -7,11 +7,10 @@ use lib.ListN.{length, take}
 use Rattle.laws.specs.Sorted.{nil, cons}
 use Rattle.laws.proofs.Fill.{Held, held-seen, is-same}
 use Rattle.model.specs.Things as things
-use Rattle.model.specs.Sound.{Fits}
 use Rattle.tables.specs.declared.Nodes.{Nodes}
 use Rattle.tables.specs.declared.Attributes.{Attributes}
 use Rattle.tables.specs.declared.Permissions.{Permissions}
-use Rattle.tables.specs.View.{AtPath, viewNode, nodeOf, viewNodes, nodesOf, NodesSound, blankNode, viewAttribute, attributeOf, viewAttributes, attributesOf, AttributesSound, blankAttribute, viewPermission, permissionOf, viewPermissions, permissionsOf, PermissionsSound, blankPermission}
+use Rattle.tables.specs.View.{AtPath, viewNode, nodeOf, viewNodes, nodesOf, NodesSound, blankNode, viewAttribute, attributeOf, viewAttributes, attributesOf, AttributesSound, blankAttribute, viewPermission, permissionOf, viewPermissions, permissionsOf, PermissionsSound, blankPermission, Fits}
 use Rattle.tables.proofs.Rows.{view-node, nodes-held, view-nodes, view-attribute, attributes-held, view-attributes, view-permission, permissions-held, view-permissions}
 
 count-of : {S M : Type 0} (of : M → S) (v : S → M) → ((m : M) → v (of m) ≡ m) → (P : M → Type 0) (n : ℕ) (b : S) (rows : List S) (count : ℕ)

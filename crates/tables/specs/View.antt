@@ -1,18 +1,19 @@
 -- The structs of this crate and the model: view (struct to model), ..Of (model to the one struct that stands for it), ..Sound.
-use mathlib.Core.Bool.{_&&_}
+use mathlib.Core.Bool.{Bool, _&&_}
 use mathlib.Core.Option.{Option, none, some}
 use mathlib.Core.List.{List, [], _∷_, map}
-use Prim.Native.Nat.{ℕ}
+use Prim.Native.Nat.{ℕ, _≤_}
 use lib.IntN.{pos}
 use lib.Dec.{T, eqb}
 use lib.ListN.{take, length}
-use Rattle.laws.specs.Slots.{slots, Is}
+use Rattle.laws.specs.Slots.{pick, slots, All, Is}
+use Rattle.laws.specs.Sorted.{Sorted}
 use Rattle.path.specs.Address.{valid, same}
 use Rattle.path.specs.View.{steps, pathOf}
 use Rattle.model.specs.Things as things
 use Rattle.model.specs.Things.{Row}
-use Rattle.model.specs.Sound.{Sound, Fits, SoundClipboard}
-use Rattle.model.specs.Moves.{grantRow}
+use Rattle.model.specs.Sound.{Sound, SoundClipboard}
+use Rattle.model.specs.Moves.{grantRow, head}
 use Rattle.path.specs.declared.Path.{Path}
 use Rattle.tables.specs.declared.Value.{Value}
 use Rattle.tables.specs.declared.Value.the-variants.{Whole, Reading}
@@ -129,6 +130,12 @@ abbrev pub noPermission : Permission
 noPermission = record { path = noPath; name = 0; grant = blankGrant }
 
 -- ---- tables
+-- what a table must be to be held: so many rows at most, each at a path, in strict order
+pub record Fits {P : Type 0} (lt : Row P → Row P → Bool) (n : ℕ) (l : List (Row P)) : Type 0 where
+  pub room : length l ≤ n
+  pub each : All AtPath l
+  pub ascend : Sorted lt l
+
 abbrev pub viewNodes : Nodes → List (Row ℕ)
 viewNodes t = map viewNode (take (t .count) (t .rows))
 
@@ -192,6 +199,16 @@ abbrev pub clipboardOf : things.Clipboard → Clipboard
 clipboardOf things.empty = record { kind = 0; held = dossierOf (record { nodes = []; attributes = []; permissions = [] }) }
 clipboardOf (things.branch d) = record { kind = 1; held = dossierOf d }
 clipboardOf (things.single a l) = record { kind = 2; held = dossierOf (singleRows a l) }
+
+-- by kind: 1 a branch, 2 the attribute of its one row with its permissions, else empty
+abbrev pub viewSingle : Option (Row things.Attribute) → List (Row (ℕ × things.Permission)) → things.Clipboard
+viewSingle none l = things.empty
+viewSingle (some a) l = things.single (a .1) (map (λ r. r .1 .1) l)
+
+abbrev pub viewClipboard : Clipboard → things.Clipboard
+viewClipboard c =
+    pick (eqb (c .kind) 1) (things.branch (viewDossier (c .held)))
+    (pick (eqb (c .kind) 2) (viewSingle (head (viewAttributes (c .held .attributes))) (viewPermissions (c .held .permissions))) things.empty)
 
 abbrev pub ClipboardSound : Clipboard → Type 0
 ClipboardSound c = Is clipboardOf SoundClipboard c

@@ -1,4 +1,4 @@
-// What is asked of a table: a lookup stops at the first hit.
+// What is asked of a table: rows are in order, so that a lookup halves them; what is asked of a branch or of children reads every row.
 ghost use mathlib.Core.Path.{_≡_};
 ghost use mathlib.Core.Bool.{_&&_};
 ghost use Prim.Native.Nat.{_≤_, max};
@@ -15,9 +15,13 @@ use crate::Nodes;
 use crate::Permissions;
 use crate::Span;
 use crate::Value;
+use crate::place::first_at;
+use crate::place::object_before;
 use path::Path;
+use path::is_before;
 use path::is_same;
 use path::is_under;
+use path::size;
 
 // A node's owner, or that there is no such node: nobody is no user.
 pub enum Owner {
@@ -41,14 +45,13 @@ pub fn owner_in(t: Nodes, p: Path) -> Owner
     requires { ⌜ NodesSound t × PathSound p ⌝ }
     ensures { λ r. ⌜ r ≡ ownerOf (ownerIn (steps p) (viewNodes t)) ⌝ }
 {
-    let n = t.count;
-    let mut i: usize = 0;
-    while i < n {
-        let node = t.rows[i];
-        if is_same(node.path, p) {
-            return Owner::User(node.owner);
-        }
-        i += 1;
+    let i = first_at(t, p);
+    if t.count <= i {
+        return Owner::Nobody;
+    }
+    let node = t.rows[i];
+    if is_same(node.path, p) {
+        return Owner::User(node.owner);
     }
     Owner::Nobody
 }
@@ -57,19 +60,24 @@ pub fn attribute_in(t: Attributes, p: Path, name: u16) -> Found
     requires { ⌜ AttributesSound t × PathSound p ⌝ }
     ensures { λ r. ⌜ r ≡ foundOf (attributeIn (steps p) name (viewAttributes t)) ⌝ }
 {
-    let n = t.count;
-    let mut i: usize = 0;
-    while i < n {
-        let a = t.rows[i];
-        if a.name == name {
-            if is_same(a.path, p) {
-                let v = a.value;
-                return Found::Present(a.owner, v);
-            }
-            i += 1;
+    let mut lo: usize = 0;
+    let mut hi = t.count;
+    while lo < hi {
+        let mid = lo + (hi - lo) / 2;
+        let b = t.rows[mid];
+        if object_before(b.path, b.name, p, name) {
+            lo = mid + 1;
         } else {
-            i += 1;
+            hi = mid;
         }
+    }
+    if t.count <= lo {
+        return Found::Absent;
+    }
+    let row = t.rows[lo];
+    if (row.name == name) & is_same(row.path, p) {
+        let v = row.value;
+        return Found::Present(row.owner, v);
     }
     Found::Absent
 }
@@ -99,6 +107,16 @@ pub fn holds_in(t: Permissions, p: Path, name: u16, g: Grant) -> bool
 {
     let n = t.count;
     let mut i: usize = 0;
+    let mut hi = n;
+    while i < hi {
+        let mid = i + (hi - i) / 2;
+        let b = t.rows[mid];
+        if object_before(b.path, b.name, p, name) {
+            i = mid + 1;
+        } else {
+            hi = mid;
+        }
+    }
     while i < n {
         let a = t.rows[i];
         if (a.name == name) & is_same(a.path, p) {
@@ -107,7 +125,7 @@ pub fn holds_in(t: Permissions, p: Path, name: u16, g: Grant) -> bool
             }
             i += 1;
         } else {
-            i += 1;
+            return false;
         }
     }
     false
@@ -118,7 +136,7 @@ pub fn is_child(p: Path, q: Path) -> bool
     requires { ⌜ PathSound p × PathSound q ⌝ }
     ensures { λ r. ⌜ r ≡ images.there (oneStep (off (steps q) (steps p))) ⌝ }
 {
-    if p.len != q.len + 1 {
+    if size(p) != size(q) + 1 {
         return false;
     }
     is_under(p, q)
@@ -149,12 +167,22 @@ pub fn names_in(t: Attributes, p: Path) -> Names
     ensures { λ r. ⌜ r ≡ namesOf (namesIn (steps p) (viewAttributes t)) ⌝ }
 {
     let n = t.count;
+    let mut i: usize = 0;
+    let mut hi = n;
+    while i < hi {
+        let mid = i + (hi - i) / 2;
+        let b = t.rows[mid];
+        if is_before(b.path, p) {
+            i = mid + 1;
+        } else {
+            hi = mid;
+        }
+    }
     let mut out = Names {
         names: [0; 16],
         count: 0,
     };
     let mut k: usize = 0;
-    let mut i: usize = 0;
     while i < n {
         let a = t.rows[i];
         if is_same(a.path, p) {
@@ -162,7 +190,8 @@ pub fn names_in(t: Attributes, p: Path) -> Names
             k += 1;
             i += 1;
         } else {
-            i += 1;
+            out.count = k;
+            return out;
         }
     }
     out.count = k;
@@ -175,15 +204,25 @@ pub fn count_on(t: Attributes, p: Path) -> usize
     ensures { λ r. ⌜ r ≡ length (namesIn (steps p) (viewAttributes t)) ⌝ }
 {
     let n = t.count;
-    let mut found: usize = 0;
     let mut i: usize = 0;
+    let mut hi = n;
+    while i < hi {
+        let mid = i + (hi - i) / 2;
+        let b = t.rows[mid];
+        if is_before(b.path, p) {
+            i = mid + 1;
+        } else {
+            hi = mid;
+        }
+    }
+    let mut found: usize = 0;
     while i < n {
         let a = t.rows[i];
         if is_same(a.path, p) {
             found += 1;
             i += 1;
         } else {
-            i += 1;
+            return found;
         }
     }
     found
@@ -252,13 +291,14 @@ pub fn depth_under(t: Nodes, q: Path) -> usize
     requires { ⌜ NodesSound t × PathSound q ⌝ }
     ensures { λ r. ⌜ r ≡ deepest (carried (off (steps q)) (viewNodes t)) ⌝ }
 {
+    let k = size(q);
     let n = t.count;
     let mut most: usize = 0;
     let mut i: usize = 0;
     while i < n {
         let a = t.rows[i];
         if is_under(a.path, q) {
-            let below = (a.path.len - q.len) as usize;
+            let below = size(a.path) - k;
             most = larger(most, below);
             i += 1;
         } else {
@@ -266,6 +306,20 @@ pub fn depth_under(t: Nodes, q: Path) -> usize
         }
     }
     most
+}
+
+// The steps of the longest path: rows are in order of length first, so that it is the last row's.
+pub fn deepest_in(t: Nodes) -> usize
+    requires { ⌜ NodesSound t ⌝ }
+    ensures { λ r. ⌜ r ≡ deepest (viewNodes t) ⌝ }
+{
+    let n = t.count;
+    if n == 0 {
+        return 0;
+    }
+    let last = n - 1;
+    let a = t.rows[last];
+    size(a.path)
 }
 
 fn larger(a: usize, b: usize) -> usize

@@ -3,9 +3,11 @@ ghost use mathlib.Core.Path.{_≡_};
 ghost use mathlib.Core.List.{[]};
 ghost use Rattle.tables.specs.View.{nodesOf, attributesOf, permissionsOf, blankNode, blankAttribute, blankPermission};
 use path::Path;
+use path::root;
 
 pub mod ask;
 pub mod order;
+pub mod place;
 
 // A whole number, or a measured reading.
 pub enum Value {
@@ -81,10 +83,7 @@ pub fn blank_node() -> Node
     ensures { λ r. ⌜ r ≡ blankNode ⌝ }
 {
     Node {
-        path: Path {
-            len: 0,
-            steps: [0; 6],
-        },
+        path: root(),
         owner: 0,
     }
 }
@@ -93,10 +92,7 @@ pub fn blank_attribute() -> Attribute
     ensures { λ r. ⌜ r ≡ blankAttribute ⌝ }
 {
     Attribute {
-        path: Path {
-            len: 0,
-            steps: [0; 6],
-        },
+        path: root(),
         name: 0,
         owner: 0,
         value: Value::Whole(0),
@@ -116,10 +112,7 @@ pub fn blank_permission() -> Permission
         agreements: 0,
     };
     Permission {
-        path: Path {
-            len: 0,
-            steps: [0; 6],
-        },
+        path: root(),
         name: 0,
         grant: g,
     }

@@ -7,7 +7,7 @@ use Prim.Native.Nat.{ℕ, suc, _+_}
 use native.Mathlib.Omega.{arith}
 use lib.Dec.{T}
 use lib.ListN.{length, length-append, length-map}
-use Rattle.laws.specs.Sorted.{_∈_, StrictOrder, step, insert, merge}
+use Rattle.laws.specs.Sorted.{_∈_, StrictOrder, insertBy, insert, merge}
 use Rattle.laws.proofs.Sorted.{sort-back}
 use Rattle.path.specs.Address.{Address}
 use Rattle.model.specs.Things.{Row}
@@ -23,10 +23,10 @@ module _ {A : Type 0} where
   append-once (x ∷ l) m u v n =
       (λ h. ⊎-elim (λ k. u .0 k) (λ k. n x (List·Memᴰ·head refl) k) (List·Memᴰ·append-cases l h), append-once l m (u .1) v (λ y h k. n y (List·Memᴰ·tail h) k))
 
-  step-length : (b c : Bool) (x y : A) (l r : List A) → (T (not b) → T (not c) → ⊥) → length r ≡ suc (length l) → length (step b c x y l r) ≡ suc (suc (length l))
-  step-length true c x y l r n e = refl
-  step-length false true x y l r n e = ap suc e
-  step-length false false x y l r n e = absurd (n tt tt)
+  insertBy-length : (b c : Bool) (x y : A) (l r : List A) → (T (not b) → T (not c) → ⊥) → length r ≡ suc (length l) → length (insertBy b c x y l r) ≡ suc (suc (length l))
+  insertBy-length true c x y l r n e = refl
+  insertBy-length false true x y l r n e = ap suc e
+  insertBy-length false false x y l r n e = absurd (n tt tt)
 
 pub map-once : {A B : Type 0} (f : A → B) → ((a b : A) → f a ≡ f b → a ≡ b) → (l : List A) → Distinct l → Distinct (map f l)
 map-once f inj [] u = tt
@@ -36,7 +36,7 @@ module _ {A : Type 0} (lt : A → A → Bool) (o : StrictOrder lt) where
   insert-length : (x : A) (l : List A) → (x ∈ l → ⊥) → length (insert lt x l) ≡ suc (length l)
   insert-length x [] n = refl
   insert-length x (y ∷ l) n =
-      step-length (lt x y) (lt y x) x y l (insert lt x l) (λ s t. n (List·Memᴰ·head (o .conn x y s t))) (insert-length x l (λ k. n (List·Memᴰ·tail k)))
+      insertBy-length (lt x y) (lt y x) x y l (insert lt x l) (λ s t. n (List·Memᴰ·head (o .conn x y s t))) (insert-length x l (λ k. n (List·Memᴰ·tail k)))
 
   -- in order there are as many
   pub sort-length : (l : List A) → Distinct l → length (merge lt l []) ≡ length l

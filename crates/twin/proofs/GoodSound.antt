@@ -126,9 +126,9 @@ module _ (t : Tree Node) (g : GoodTree t) where
   above [] n e = tt
   above (k ∷ q) n e = let w = parent-stands k q t n e in node-there (parent (k ∷ q)) (w .0) (w .1)
 
-  beside : (p : Address) (n : Node) → look p t ≡ some n → T (isRoot p || (eqb (last p) 1 || there (moves.nodeAt (left p) (dossierOf t))))
-  beside [] n e = tt
-  beside (k ∷ q) n e = go (test (eqb (last (k ∷ q)) 1))
+  left-there : (p : Address) (n : Node) → look p t ≡ some n → T (isRoot p || (eqb (last p) 1 || there (moves.nodeAt (left p) (dossierOf t))))
+  left-there [] n e = tt
+  left-there (k ∷ q) n e = go (test (eqb (last (k ∷ q)) 1))
     where
       go : Test (eqb (last (k ∷ q)) 1) → T (eqb (last (k ∷ q)) 1 || there (moves.nodeAt (left (k ∷ q)) (dossierOf t)))
       go (holds s) = or-left (eqb (last (k ∷ q)) 1) (there (moves.nodeAt (left (k ∷ q)) (dossierOf t))) s
@@ -200,7 +200,7 @@ module _ (t : Tree Node) (g : GoodTree t) where
     permissions-good = λ r h. permission-good (r .0) (r .1) h;
     root = node-there [] (payload t) refl;
     above = λ r h. let w = node-row (r .0) (r .1) h in above (r .0) (w .0) (w .1);
-    beside = λ r h. let w = node-row (r .0) (r .1) h in beside (r .0) (w .0) (w .1);
+    left-there = λ r h. let w = node-row (r .0) (r .1) h in left-there (r .0) (w .0) (w .1);
     on-node = λ r h. let w = attribute-row (r .0) (r .1) h in node-there (r .0) (w .0) (w .1);
     on-object = λ r h. let w = permission-row (r .0) (r .1) h in object-there (r .0) (r .1) (w .0) (w .1) (w .2);
     one-node = one-node;

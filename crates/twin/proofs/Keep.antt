@@ -14,7 +14,7 @@ use mir.Facts.{and-yes}
 use Rattle.laws.specs.Slots.{pick}
 use Rattle.laws.specs.Sorted.{_∈_, push}
 use Rattle.model.specs.Decide.{membersFrom, members}
-use Rattle.model.specs.Refusals.{Request, userGood, granted, provisions, first, refusal}
+use Rattle.model.specs.Refusals.{Request, userGood, granted, provisions, firstThat, refusal}
 use Rattle.model.specs.Image.{Loaded, bad, good}
 use Rattle.model.specs.Run.{Call, start, new, load, save, saveClipboard, sign, takeLog, request, ask, Answer, done, refused, Reply, reply, short, writes, dossierGood, signedBy, signed, logged, logBytes, standing}
 use Rattle.roundtrip.proofs.Checks.{not-not}
@@ -158,23 +158,23 @@ pub good-step : (s : Session) (c : Call) → GoodSession s → GoodSession (step
 unfolding step
 good-step s start g = begun-good
 good-step s (new n owner) g =
-    refused-good (first ((1, not (dossierGood n && userGood owner)) ∷ [])) s (withDossier n (leaf owner) s) done g
+    refused-good (firstThat ((1, not (dossierGood n && userGood owner)) ∷ [])) s (withDossier n (leaf owner) s) done g
     (λ e. with-dossier n (leaf owner) s
     (leaf-good owner (and-yes (dossierGood n) (userGood owner) (not-not (dossierGood n && userGood owner) (subst T (no-refusal ((1, not (dossierGood n && userGood owner)) ∷ []) .0 e .0))) .1)) g)
-good-step s (load n image) g = go (first ((1, not (dossierGood n)) ∷ []))
+good-step s (load n image) g = go (firstThat ((1, not (dossierGood n)) ∷ []))
   where
     go : (o : Option ℕ) → Leaves {A = Reply} (elim o [ none ↦ loaded s n image (loadTree image) | some k ↦ (s, reply (refused k) (image ∷ [])) ])
     go none = loaded-good s n image (loadTree image) (load-good image) g
     go (some k) = g
 good-step s (save n buffer) g =
-    writes-good (first ((1, not (dossierGood n)) ∷ (9, short (saved (dossier n s)) buffer) ∷ [])) s s (saved (dossier n s)) buffer g g
-good-step s (saveClipboard buffer) g = writes-good (first ((9, short (savedClip (s .clipboard)) buffer) ∷ [])) s s (savedClip (s .clipboard)) buffer g g
+    writes-good (firstThat ((1, not (dossierGood n)) ∷ (9, short (saved (dossier n s)) buffer) ∷ [])) s s (saved (dossier n s)) buffer g g
+good-step s (saveClipboard buffer) g = writes-good (firstThat ((9, short (savedClip (s .clipboard)) buffer) ∷ [])) s s (savedClip (s .clipboard)) buffer g g
 good-step s (sign user agreement) g =
-    refused-good (first ((1, not (userGood user && leb agreement 31)) ∷ [])) s (withSignatures (signed user agreement (s .signatures)) s) done g
+    refused-good (firstThat ((1, not (userGood user && leb agreement 31)) ∷ [])) s (withSignatures (signed user agreement (s .signatures)) s) done g
     (λ e. signed-good user agreement s
     (leb→le agreement 31 (and-yes (userGood user) (leb agreement 31) (not-not (userGood user && leb agreement 31) (subst T (no-refusal ((1, not (userGood user && leb agreement 31)) ∷ []) .0 e .0))) .1)) g)
 good-step s (takeLog buffer) g =
-    writes-good (first ((9, short (logBytes (s .log)) buffer) ∷ [])) s (withLog [] s) (logBytes (s .log)) buffer g
+    writes-good (firstThat ((9, short (logBytes (s .log)) buffer) ∷ [])) s (withLog [] s) (logBytes (s .log)) buffer g
     (record { one = g .one; two = g .two; clipboard = g .clipboard; rows = g .rows; agreements = g .agreements; entries = omega arith; log = λ e m. absurd (List·Memᴰ·not-nil m) })
 good-step s (request r) g = requested-good s r g
 good-step s (ask image q buffer) g = g

@@ -29,10 +29,10 @@ pub record Within (t : Totals) : Type 0 where
   pub on-node : t .onNode ≤ 16
   pub permissions : t .permissions ≤ 128
 
-below : (a b : ℕ) → (T (ltb a b) → ⊥) → b ≤ a
+pub below : (a b : ℕ) → (T (ltb a b) → ⊥) → b ≤ a
 below a b n = nltb→le a b (not-T (ltb a b) n)
 
-within : (t : Totals) → (T (overBound t) → ⊥) → Within t
+pub within : (t : Totals) → (T (overBound t) → ⊥) → Within t
 within t n =
     let a = neither (ltb 64 (t .nodes)) (ltb 6 (t .depth) || (ltb 32 (t .children) || (ltb 256 (t .attributes) || (ltb 16 (t .onNode) || ltb 128 (t .permissions))))) n in
     let b = neither (ltb 6 (t .depth)) (ltb 32 (t .children) || (ltb 256 (t .attributes) || (ltb 16 (t .onNode) || ltb 128 (t .permissions)))) (a .1) in
@@ -48,7 +48,7 @@ within t n =
       permissions = below 128 (t .permissions) (e .1);
     }
 
-map-missing : {A B : Type 0} (f : A → B) (o : Option A) → (T (not (missing (Option·map f o))) → ⊥) → o ≡ none
+pub map-missing : {A B : Type 0} (f : A → B) (o : Option A) → (T (not (missing (Option·map f o))) → ⊥) → o ≡ none
 map-missing f o n = map-eq-none-iff f o .0 (absent-none (Option·map f o) (not-T (there (Option·map f o)) n))
 
 siblings-few : (p : Address) (t : Tree Node) → childrenOf (branch p t) + 1 ≤ 32 → (u : Tree Node) → branch p t ≡ some u → count (kids u) + 1 ≤ 32

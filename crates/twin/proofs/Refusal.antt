@@ -11,10 +11,10 @@ use mir.Facts.{yes-and}
 use Rattle.laws.specs.Slots.{pick, All}
 use Rattle.model.specs.Things.{Attribute, Dossier, State, bare}
 use Rattle.model.specs.Moves.{attributeAt, objectAt}
-use Rattle.model.specs.Refusals.{Request, Found, missing, userGood, provisions, first, refusal}
+use Rattle.model.specs.Refusals.{Request, Found, missing, userGood, provisions, firstThat, refusal}
 use Rattle.model.specs.Image as images
 use Rattle.model.specs.Image.{Loaded, bad, good}
-use Rattle.model.specs.Run.{Question, Call, start, new, load, save, saveClipboard, sign, takeLog, request, ask, Answer, done, contents, value, wrote, refused, badRecord, numberOf, Reply, reply, short, written, writes, dossierGood, dossier, withDossier, withLog, withSignatures, signed, logBytes, found, cached, standing, valueOf, answered, carriedOut, requested, badQuestion, imageOf, orNone, mayAskIn, askBytes, loaded, orRefused, step}
+use Rattle.model.specs.Run.{Question, Call, start, new, load, save, saveClipboard, sign, takeLog, request, ask, Answer, done, contents, valueRead, wrote, refused, badRecord, numberOf, Reply, reply, short, written, writes, dossierGood, dossier, withDossier, withLog, withSignatures, signed, logBytes, found, cached, standing, valueOf, answered, carriedOut, requested, badQuestion, imageOf, orNone, mayAskIn, askBytes, loaded, orRefused, step}
 use Rattle.roundtrip.proofs.Checks.{or-left, or-right}
 
 -- ---- "Tested in this order; the first that applies is given, and only then"
@@ -27,36 +27,36 @@ Untrue row = row .1 ≡ false
 abbrev pub FirstRow : ℕ → Rows → Type 0
 FirstRow n l = (a : Rows) × (b : Rows) × (l ≡ a ++ ((n, true) ∷ b)) × All Untrue a
 
-first-there : (n : ℕ) (l : Rows) → first l ≡ some n → FirstRow n l
+first-there : (n : ℕ) (l : Rows) → firstThat l ≡ some n → FirstRow n l
 first-there n [] e = absurd (Option·none-ne-some n e)
 first-there n (row ∷ l) e = go (row .1) refl e (first-there n l)
   where
-    go : (b : Bool) → row .1 ≡ b → pick b (some (row .0)) (first l) ≡ some n → (first l ≡ some n → FirstRow n l) → FirstRow n (row ∷ l)
+    go : (b : Bool) → row .1 ≡ b → pick b (some (row .0)) (firstThat l) ≡ some n → (firstThat l ≡ some n → FirstRow n l) → FirstRow n (row ∷ l)
     go true d h below = ([], l, λ i. (Option·some-injective (row .0) n h i, d i) ∷ l, tt)
     go false d h below = let w = below h in (row ∷ w .0, w .1, ap (λ (m : Rows). row ∷ m) (w .2), (d, w .3))
 
-first-back : (n : ℕ) (a b : Rows) → All Untrue a → first (a ++ ((n, true) ∷ b)) ≡ some n
+first-back : (n : ℕ) (a b : Rows) → All Untrue a → firstThat (a ++ ((n, true) ∷ b)) ≡ some n
 first-back n [] b h = refl
-first-back n (row ∷ a) b h = ap (λ (c : Bool). pick c (some (row .0)) (first (a ++ ((n, true) ∷ b)))) (h .0) ∙ first-back n a b (h .1)
+first-back n (row ∷ a) b h = ap (λ (c : Bool). pick c (some (row .0)) (firstThat (a ++ ((n, true) ∷ b)))) (h .0) ∙ first-back n a b (h .1)
 
-pub refusal-number : (n : ℕ) (l : Rows) → (first l ≡ some n) ↔ FirstRow n l
-refusal-number n l = (first-there n l, λ w. ap first (w .2) ∙ first-back n (w .0) (w .1) (w .3))
+pub refusal-number : (n : ℕ) (l : Rows) → (firstThat l ≡ some n) ↔ FirstRow n l
+refusal-number n l = (first-there n l, λ w. ap firstThat (w .2) ∙ first-back n (w .0) (w .1) (w .3))
 
 -- no refusal exactly where no row applies
-pub no-refusal : (l : Rows) → (first l ≡ none) ↔ All Untrue l
+pub no-refusal : (l : Rows) → (firstThat l ≡ none) ↔ All Untrue l
 no-refusal l = (there l, back l)
   where
-    there : (l : Rows) → first l ≡ none → All Untrue l
+    there : (l : Rows) → firstThat l ≡ none → All Untrue l
     there [] e = tt
     there (row ∷ l) e = go (row .1) refl e (there l)
       where
-        go : (b : Bool) → row .1 ≡ b → pick b (some (row .0)) (first l) ≡ none → (first l ≡ none → All Untrue l) → All Untrue (row ∷ l)
+        go : (b : Bool) → row .1 ≡ b → pick b (some (row .0)) (firstThat l) ≡ none → (firstThat l ≡ none → All Untrue l) → All Untrue (row ∷ l)
         go true d h below = absurd (Option·none-ne-some (row .0) (sym h))
         go false d h below = (d, below h)
 
-    back : (l : Rows) → All Untrue l → first l ≡ none
+    back : (l : Rows) → All Untrue l → firstThat l ≡ none
     back [] h = refl
-    back (row ∷ l) h = ap (λ (c : Bool). pick c (some (row .0)) (first l)) (h .0) ∙ back l (h .1)
+    back (row ∷ l) h = ap (λ (c : Bool). pick c (some (row .0)) (firstThat l)) (h .0) ∙ back l (h .1)
 
 -- whether a row of this number applies
 abbrev pub applies : ℕ → Rows → Bool
@@ -64,7 +64,7 @@ applies n [] = false
 applies n (row ∷ l) = (eqb n (row .0) && row .1) || applies n l
 
 -- "and only then": a number that is given has a row that applies
-pub only-then : (n : ℕ) (l : Rows) → first l ≡ some n → T (applies n l)
+pub only-then : (n : ℕ) (l : Rows) → firstThat l ≡ some n → T (applies n l)
 only-then n l e = let w = first-there n l e in subst (λ (m : Rows). T (applies n m)) (sym (w .2)) (at-row (w .0) (w .1))
   where
     at-row : (a b : Rows) → T (applies n (a ++ ((n, true) ∷ b)))
@@ -88,7 +88,7 @@ refused-by s r n e = ap (outcome s r) e
 -- ---- ask, by what its own table says: "tested 1, 12 (here without a record number), 3, 6, 9"
 abbrev pub asking : Question → List ℕ → Option Dossier → Option ℕ
 asking q buffer d =
-    first
+    firstThat
     ((1, badQuestion q)
     ∷ (12, missing d)
     ∷ (3, missing (objectAt (q .path) (q .name) (orNone d)))
@@ -114,7 +114,7 @@ ask-refused-by s image q buffer n e = let d = imageOf (images.load image) in
 abbrev pub isRefused : Answer → Bool
 isRefused done = false
 isRefused (contents names children) = false
-isRefused (value v) = false
+isRefused (valueRead v) = false
 isRefused (wrote n) = false
 isRefused (refused n) = true
 isRefused (badRecord n) = true
@@ -180,15 +180,15 @@ ask-keeps (some n) s image buffer bytes t = (refl, refl)
 pub refusal-keeps : (s : State) (c : Call) → T (isRefused (step s c .1 .answer)) → (step s c .0 ≡ s) × (step s c .1 .lent ≡ lentBy c)
 unfolding step
 refusal-keeps s start t = absurd t
-refusal-keeps s (new n owner) t = or-keeps (first ((1, not (dossierGood n && userGood owner)) ∷ [])) s (withDossier n (bare owner) s) t
-refusal-keeps s (load n image) t = load-keeps (first ((1, not (dossierGood n)) ∷ [])) s n image (images.load image) t
+refusal-keeps s (new n owner) t = or-keeps (firstThat ((1, not (dossierGood n && userGood owner)) ∷ [])) s (withDossier n (bare owner) s) t
+refusal-keeps s (load n image) t = load-keeps (firstThat ((1, not (dossierGood n)) ∷ [])) s n image (images.load image) t
 refusal-keeps s (save n buffer) t = let bytes = images.save (dossier n s) in
-    writes-keeps (first ((1, not (dossierGood n)) ∷ (9, short bytes buffer) ∷ [])) s s bytes buffer t
+    writes-keeps (firstThat ((1, not (dossierGood n)) ∷ (9, short bytes buffer) ∷ [])) s s bytes buffer t
 refusal-keeps s (saveClipboard buffer) t = let bytes = images.saveClipboard (s .clipboard) in
-    writes-keeps (first ((9, short bytes buffer) ∷ [])) s s bytes buffer t
+    writes-keeps (firstThat ((9, short bytes buffer) ∷ [])) s s bytes buffer t
 refusal-keeps s (sign user agreement) t =
-    or-keeps (first ((1, not (userGood user && leb agreement 31)) ∷ [])) s (withSignatures (signed user agreement (s .signatures)) s) t
-refusal-keeps s (takeLog buffer) t = let bytes = logBytes (s .log) in writes-keeps (first ((9, short bytes buffer) ∷ [])) s (withLog [] s) bytes buffer t
+    or-keeps (firstThat ((1, not (userGood user && leb agreement 31)) ∷ [])) s (withSignatures (signed user agreement (s .signatures)) s) t
+refusal-keeps s (takeLog buffer) t = let bytes = logBytes (s .log) in writes-keeps (firstThat ((9, short bytes buffer) ∷ [])) s (withLog [] s) bytes buffer t
 refusal-keeps s (request r) t = (request-keeps (judged s r) s r t, refl)
 refusal-keeps s (ask image q buffer) t = let d = imageOf (images.load image) in
     ask-keeps (asking q buffer d) s image buffer (written (askBytes (provisions (mayAskIn q (orNone d)))) buffer) t

@@ -2,7 +2,7 @@
 use mathlib.Core.Path.{_≡_, refl, sym, ap, ap₂, subst, _∙_}
 use mathlib.Core.Logic.{_⊎_, inl, inr}
 use mathlib.Core.Bool.{Bool, true, false, not, _&&_}
-use mathlib.Core.Option.{some}
+use mathlib.Core.Option.{Option, some}
 use mathlib.Core.List.{List, [], _∷_, _++_, map, List·Memᴰ·head, List·Memᴰ·tail, List·Memᴰ·cases-cons, Memᴰ·cast, Memᴰ·map, Memᴰ·of-map}
 use Prim.Native.Nat.{ℕ}
 use lib.Dec.{T, eqb, ltb, eqb→eq, T-not}
@@ -14,7 +14,7 @@ use Rattle.laws.proofs.Order.{ℕ-order}
 use Rattle.path.specs.Address.{Address}
 use Rattle.path.proofs.Moves.{Test, holds, fails, test, pick-yes, pick-no}
 use Rattle.model.specs.Things.{Value, Attribute, Permission, Row, bare, ltAttribute, ltPermission, beforePermission}
-use Rattle.model.specs.Moves.{keep, deleteBranch, copyBranch, pasteBranch, otherAttribute, otherObject, deleteAttribute, changeValue, grantRow, pasteAttribute, samePermission, otherPermission, addPermission, deletePermission}
+use Rattle.model.specs.Moves.{keep, attributeAt, deleteBranch, copyBranch, pasteBranch, otherAttribute, otherObject, deleteAttribute, changedRow, changeValue, grantRow, pasteAttribute, samePermission, otherPermission, addPermission, deletePermission}
 use Rattle.roundtrip.proofs.Orders.{permission-order, attribute-order, ltNamed, named-order}
 use Rattle.twin.specs.Tree.{Tree, branch, look, pasteTree, deleteTree, setAt, table}
 use Rattle.twin.specs.Twin.{Holding, Node, leaf, inOrder, plain, calledSo, holding, nodeItems, attributeItems, named, holdingItems, permissionItems, withHolding, withoutHolding, onHolding, withValue, onPermissions, withPermission, withoutPermission}
@@ -123,11 +123,12 @@ items-on k v (a ∷ l) = ap₂ (λ (x r : List (ℕ × Permission)). x ++ r) (go
 
 -- "Changing a value keeps owner and permissions"
 pub value-same : (k : ℕ) (v : Value) (p : Address) (t : Tree Node) (n : Node) (a : Holding) → look p t ≡ some n → GoodNode n → holding k n ≡ some a
-    → changeValue p (plain a) v (dossierOf t) ≡ dossierOf (setAt (onHolding k (withValue v)) p t)
-value-same k v p t n a e g d = λ i. record {
+    → attributeAt p k (dossierOf t) ≡ some (plain a) → changeValue p k v (dossierOf t) ≡ dossierOf (setAt (onHolding k (withValue v)) p t)
+value-same k v p t n a e g d found = λ i. record {
   nodes = sym (set-keeps nodeItems ltb ℕ-order (onHolding k (withValue v)) (λ m. refl) p t) i;
-  attributes = sym (set-replace attributeItems ltAttribute attribute-order (onHolding k (withValue v)) p t n e (plain (withValue v a))
-      (λ b. not (eqb (b .name) (a .name))) (otherAttribute p (a .name)) (tests p (λ b c. not (b && eqb (c .name) (a .name))) (λ x. tt)) new old all) i;
+  attributes = (ap (λ (o : Option Attribute). changedRow p v o (dossierOf t .attributes)) found
+      ∙ sym (set-replace attributeItems ltAttribute attribute-order (onHolding k (withValue v)) p t n e (plain (withValue v a))
+      (λ b. not (eqb (b .name) (a .name))) (otherAttribute p (a .name)) (tests p (λ b c. not (b && eqb (c .name) (a .name))) (λ x. tt)) new old all)) i;
   permissions = sym (set-keeps permissionItems ltNamed named-order (onHolding k (withValue v)) (λ m. ap (λ (r : List (ℕ × Permission)). map (named 0) (m .permissions) ++ r) (items-on k v (m .attributes))) p t) i;
 }
   where

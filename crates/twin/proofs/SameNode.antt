@@ -133,7 +133,7 @@ called-one k n g = go (holding k n) refl
 
 -- ---- no attribute and no permission twice
 -- a good permission has a time and a user, which it shares with itself
-self-clash : (k : ℕ) (g : Permission) → T (permissionGood k g) → T (clash g g)
+pub self-clash : (k : ℕ) (g : Permission) → T (permissionGood k g) → T (clash g g)
 self-clash k g t =
     let z = times-good k g t .2 in
     yes-and (eqb (g .role) (g .role) && (eqb (g .action) (g .action) && meet (g .user) (g .user))) (overlap g g)

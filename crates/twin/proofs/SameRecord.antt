@@ -44,8 +44,8 @@ tablesOf (some t) = dossierOf t
 
 -- ---- one more node, after the last child: it moves nothing
 -- a place whose left neighbour is there, or that is the first
-left-there : (k : ℕ) (q : Address) (t s : Tree Node) → branch (parent (k ∷ q)) t ≡ some s → T (eqb (last (k ∷ q)) 1 || there (nodeAt (left (k ∷ q)) t)) → last (k ∷ q) ≤ count (kids s) + 1
-left-there k q t s e h = go (eqb (last (k ∷ q)) 1) (eqb→eq (last (k ∷ q)) 1) h
+left-near : (k : ℕ) (q : Address) (t s : Tree Node) → branch (parent (k ∷ q)) t ≡ some s → T (eqb (last (k ∷ q)) 1 || there (nodeAt (left (k ∷ q)) t)) → last (k ∷ q) ≤ count (kids s) + 1
+left-near k q t s e h = go (eqb (last (k ∷ q)) 1) (eqb→eq (last (k ∷ q)) 1) h
   where
     below : (i : ℕ) (u : Tree Node) → kid i (kids s) ≡ some u → i ≤ count (kids s)
     below zero u d = absurd (Option·none-ne-some u d)
@@ -74,7 +74,7 @@ node-added u n (k ∷ q) t v h =
     let w = not-missing nodeObject (look (parent (k ∷ q)) t) (T-not (missing (nodeAt (parent (k ∷ q)) t)) (c .0)) in
     let s = look-branch (parent (k ∷ q)) t (w .0) (w .1) in
     let one : 1 ≤ last (k ∷ q) = last-good k q (and-yes (leb (length (k ∷ q)) 6) (stepsGood (k ∷ q)) v .1) .0 in
-    let near : last (k ∷ q) ≤ count (kids (s .0)) + 1 = left-there k q t (s .0) (s .1) (c .1) in
+    let near : last (k ∷ q) ≤ count (kids (s .0)) + 1 = left-near k q t (s .0) (s .1) (c .1) in
     let place : Place k q t = place-of k q t (s .0) (s .1) one (omega arith) in
     let end : End k q t = end-of k q t (s .0) (s .1) (nothing-there k q t (s .0) (s .1) (map-eq-none-iff nodeObject (look (k ∷ q) t) .0 (absent-none (nodeAt (k ∷ q) t) (a .0))) one) in
     λ i. record {

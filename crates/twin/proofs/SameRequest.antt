@@ -12,6 +12,7 @@ use Rattle.path.specs.Address.{Address, stepsGood, parent, last}
 use Rattle.model.specs.Things as things
 use Rattle.model.specs.Things.{Permission, Dossier, State}
 use Rattle.model.specs.Decide.{Object}
+use Rattle.model.specs.Moves as moves
 use Rattle.model.specs.Moves.{attributeAt, deleteBranch, pasteBranch}
 use Rattle.model.specs.Refusals.{Request, Found, Cached, missing, nameGood, ownGood, isRoot, held, Standing, refusal}
 use Rattle.model.specs.Run as run
@@ -100,11 +101,11 @@ module _ (r : Request) (t : Tree Node) (c : Clip) (st : Standing) (gt : GoodTree
       let v = look-branch (r .path) t (w .0) (w .1) in
       ap things.branch (copy-same (r .path) t (v .0) (v .1)) ∙ sym (ap (λ (o : Option (Tree Node)). clipboardOf (copiedBranch c o)) (v .1))
 
-  copied-attribute : (n : ℕ) → run.copied (numbered n r) (dossierOf t) (clipboardOf c) (attributeAt (r .path) (r .name) (dossierOf t)) ≡ clipboardOf (copied c (holdingAt (r .path) (r .name) t))
-  copied-attribute n =
-      ap (run.copied (numbered n r) (dossierOf t) (clipboardOf c)) (attribute-at-same (r .path) (r .name) t gt) ∙ go (holdingAt (r .path) (r .name) t) refl
+  copied-attribute : moves.copied (r .path) (r .name) (dossierOf t) (clipboardOf c) (attributeAt (r .path) (r .name) (dossierOf t)) ≡ clipboardOf (copied c (holdingAt (r .path) (r .name) t))
+  copied-attribute =
+      ap (moves.copied (r .path) (r .name) (dossierOf t) (clipboardOf c)) (attribute-at-same (r .path) (r .name) t gt) ∙ go (holdingAt (r .path) (r .name) t) refl
     where
-      go : (o : Option Holding) → holdingAt (r .path) (r .name) t ≡ o → run.copied (numbered n r) (dossierOf t) (clipboardOf c) (Option·map plain o) ≡ clipboardOf (copied c o)
+      go : (o : Option Holding) → holdingAt (r .path) (r .name) t ≡ o → moves.copied (r .path) (r .name) (dossierOf t) (clipboardOf c) (Option·map plain o) ≡ clipboardOf (copied c o)
       go none e = refl
       go (some a) e = ap (things.single (plain a)) (held-same (r .path) (r .name) t a gt e)
 
@@ -114,7 +115,7 @@ module _ (r : Request) (t : Tree Node) (c : Clip) (st : Standing) (gt : GoodTree
   paste-branch : Alike 7
   paste-branch p = (go c, refl)
     where
-      go : (b : Clip) → run.pastedBranch (numbered 7 r) (dossierOf t) (clipboardOf b) ≡ dossierOf (pastedBranch (numbered 7 r) t b)
+      go : (b : Clip) → moves.pastedBranch (r .path) (dossierOf t) (clipboardOf b) ≡ dossierOf (pastedBranch (numbered 7 r) t b)
       go empty = refl
       go (branched s) = pasted-at s (r .path) t (p .root) (steps 7 p) (p .there)
       go (single a) = refl
@@ -130,15 +131,15 @@ module _ (r : Request) (t : Tree Node) (c : Clip) (st : Standing) (gt : GoodTree
   change-value : Alike 10
   change-value p =
       let w = on-attribute (p .there) in (
-        ap (run.changed (numbered 10 r) (dossierOf t)) (attribute-at-same (r .path) (r .name) t gt ∙ ap (Option·map plain) (w .1))
-            ∙ value-same (r .name) (r .value) (r .path) t (w .2 .0) (w .0) (w .2 .1) (look-good (r .path) t (w .2 .0) (w .2 .1) gt) (w .2 .2),
+        value-same (r .name) (r .value) (r .path) t (w .2 .0) (w .0) (w .2 .1) (look-good (r .path) t (w .2 .0) (w .2 .1) gt) (w .2 .2)
+            (attribute-at-same (r .path) (r .name) t gt ∙ ap (Option·map plain) (w .1)),
         refl,
       )
 
   paste-attribute : Alike 13
   paste-attribute p = (go c, refl)
     where
-      go : (b : Clip) → run.pastedAttribute (numbered 13 r) (dossierOf t) (clipboardOf b) ≡ dossierOf (pastedAttribute (numbered 13 r) t b)
+      go : (b : Clip) → moves.pastedAttribute (r .path) (r .name) (dossierOf t) (clipboardOf b) ≡ dossierOf (pastedAttribute (numbered 13 r) t b)
       go empty = refl
       go (branched s) = refl
       go (single a) = let w = on-node (p .there) in hold-same (renamed (r .name) a) (r .path) t (w .0) (w .1)
@@ -171,7 +172,7 @@ module _ (r : Request) (t : Tree Node) (c : Clip) (st : Standing) (gt : GoodTree
             λ p. (refl, refl),
             (
               λ p. (delete-attribute (good 9 p) (p .there), refl),
-              (λ p. (refl, copied-attribute 11), (λ p. (delete-attribute (good 12 p) (p .there), copied-attribute 12), (paste-attribute, tt))),
+              (λ p. (refl, copied-attribute), (λ p. (delete-attribute (good 12 p) (p .there), copied-attribute), (paste-attribute, tt))),
             ),
           ),
           (

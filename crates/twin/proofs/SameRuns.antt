@@ -8,7 +8,7 @@ use lib.Dec.{eqb, leb}
 use Rattle.laws.specs.Slots.{pick}
 use Rattle.model.specs.Things.{Dossier, State, fresh}
 use Rattle.model.specs.Decide.{Object}
-use Rattle.model.specs.Refusals.{userGood, first}
+use Rattle.model.specs.Refusals.{userGood, firstThat}
 use Rattle.model.specs.Image as images
 use Rattle.model.specs.Image.{Loaded, bad, good}
 use Rattle.model.specs.Run as run
@@ -82,21 +82,21 @@ step-same s (new n owner) g =
     ∙ refused-same o s (withDossier n (leaf owner) s) done
   where
     o : Option ℕ
-    o = first ((1, not (dossierGood n && userGood owner)) ∷ [])
-step-same s (load n image) g = go (first ((1, not (dossierGood n)) ∷ []))
+    o = firstThat ((1, not (dossierGood n && userGood owner)) ∷ [])
+step-same s (load n image) g = go (firstThat ((1, not (dossierGood n)) ∷ []))
   where
     go : (o : Option ℕ) → elim o [ none ↦ run.loaded (stateOf s) n image (images.load image) | some k ↦ (stateOf s, reply (refused k) (image ∷ [])) ]
         ≡ seen {A = Reply} (elim o [ none ↦ loaded s n image (loadTree image) | some k ↦ (s, reply (refused k) (image ∷ [])) ])
     go none = loaded-same s n image
     go (some k) = refl
 step-same s (save n buffer) g =
-    ap (λ (d : Dossier). writes (first ((1, not (dossierGood n)) ∷ (9, short (images.save d) buffer) ∷ [])) (stateOf s) (stateOf s) (images.save d) buffer) (dossier-same n s)
-    ∙ writes-same (first ((1, not (dossierGood n)) ∷ (9, short (saved (dossier n s)) buffer) ∷ [])) s s (saved (dossier n s)) buffer
+    ap (λ (d : Dossier). writes (firstThat ((1, not (dossierGood n)) ∷ (9, short (images.save d) buffer) ∷ [])) (stateOf s) (stateOf s) (images.save d) buffer) (dossier-same n s)
+    ∙ writes-same (firstThat ((1, not (dossierGood n)) ∷ (9, short (saved (dossier n s)) buffer) ∷ [])) s s (saved (dossier n s)) buffer
 step-same s (saveClipboard buffer) g =
-    ap (λ (b : List ℕ). writes (first ((9, short b buffer) ∷ [])) (stateOf s) (stateOf s) b buffer) (clip-same (s .clipboard))
-    ∙ writes-same (first ((9, short (savedClip (s .clipboard)) buffer) ∷ [])) s s (savedClip (s .clipboard)) buffer
-step-same s (sign user agreement) g = refused-same (first ((1, not (userGood user && leb agreement 31)) ∷ [])) s (withSignatures (signed user agreement (s .signatures)) s) done
-step-same s (takeLog buffer) g = writes-same (first ((9, short (run.logBytes (s .log)) buffer) ∷ [])) s (withLog [] s) (run.logBytes (s .log)) buffer
+    ap (λ (b : List ℕ). writes (firstThat ((9, short b buffer) ∷ [])) (stateOf s) (stateOf s) b buffer) (clip-same (s .clipboard))
+    ∙ writes-same (firstThat ((9, short (savedClip (s .clipboard)) buffer) ∷ [])) s s (savedClip (s .clipboard)) buffer
+step-same s (sign user agreement) g = refused-same (firstThat ((1, not (userGood user && leb agreement 31)) ∷ [])) s (withSignatures (signed user agreement (s .signatures)) s) done
+step-same s (takeLog buffer) g = writes-same (firstThat ((9, short (run.logBytes (s .log)) buffer) ∷ [])) s (withLog [] s) (run.logBytes (s .log)) buffer
 step-same s (request r) g = ap {B = State × Reply} (λ (x : State × Answer). (x .0, reply (x .1) [])) (request-same s r g)
 step-same s (ask image q buffer) g = ap {B = State × Reply} (λ (a : Reply). (stateOf s, a)) (ask-same image q buffer)
 

@@ -20,7 +20,7 @@ use Rattle.path.proofs.Laws.{on-off, off-on}
 use Rattle.model.specs.Things.{whole, Row, Dossier, State}
 use Rattle.model.specs.Decide.{Subject, Object, Provisions, nothing, joined, matched, owned, readBy, changeBy, ownBy, given, coverAny}
 use Rattle.model.specs.Moves.{oneStep, childStep, attributeAt, namesOn, childCount}
-use Rattle.model.specs.Refusals.{Request, subject, choose, Found, Cached, object, between, badOperand, atRoot, absent, taken, wrongClipboard, granted, permissionsOf, uncovered, clashing, totals, overBound, first}
+use Rattle.model.specs.Refusals.{Request, subject, choose, Found, Cached, object, between, badOperand, atRoot, absent, taken, wrongClipboard, granted, permissionsOf, uncovered, clashing, totals, overBound, firstThat}
 use Rattle.model.specs.Run.{Call, request, Answer, done, contents, refused, Reply, dossier, found, cached, standing, answered, requested, step, runFrom, run}
 use Rattle.model.specs.Starred.{permit, asks, noPermission, plain, numbers, twoChildren}
 use Rattle.twin.proofs.Children.{upto, oneStep-some}
@@ -115,9 +115,9 @@ owners-granted r f t =
 
 -- so his request is refused for nothing else
 pub owners-judged : (s : State) (r : Request) → T (between 1 15 (r .number)) → All (OwnedBy (r .user)) (needed r (found r (dossier (r .dossier) s)))
-    → judged s r ≡ first (otherwise r (found r (dossier (r .dossier) s)) (cached (s .clipboard)) (length (s .log)))
+    → judged s r ≡ firstThat (otherwise r (found r (dossier (r .dossier) s)) (cached (s .clipboard)) (length (s .log)))
 owners-judged s r t h =
-    (λ i. first (tests r f c (standing r (s .signatures) (s .log)) (g i) (covered i))) ∙ ap (λ (n : ℕ). first (otherwise r f c n)) (add-zero (length (s .log)))
+    (λ i. firstThat (tests r f c (standing r (s .signatures) (s .log)) (g i) (covered i))) ∙ ap (λ (n : ℕ). firstThat (otherwise r f c n)) (add-zero (length (s .log)))
   where
     f : Found
     f = found r (dossier (r .dossier) s)

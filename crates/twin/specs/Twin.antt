@@ -11,10 +11,10 @@ use Rattle.path.specs.Address.{Address, parent}
 use Rattle.model.specs.Things.{Value, Attribute, Permission, Row, beforeNode, beforeAttribute, beforePermission, ltAttribute, ltPermission, fresh}
 use Rattle.model.specs.Decide.{Object, Provisions}
 use Rattle.model.specs.Moves.{keep, head, samePermission, grantRow}
-use Rattle.model.specs.Refusals.{Request, choose, Sizes, Found, Cached, missing, userGood, granted, provisions, first, refusal}
+use Rattle.model.specs.Refusals.{Request, choose, Sizes, Found, Cached, missing, userGood, granted, provisions, firstThat, refusal}
 use Rattle.model.specs.Image.{Record, nodeRecord, attributeRecord, permissionRecord, Loaded, bad, good, loadFrom, bytesOf, nodeFits, attributeFits, permissionFits, left, there}
 use Rattle.model.specs.Run as run
-use Rattle.model.specs.Run.{Question, Call, start, new, load, save, saveClipboard, sign, takeLog, request, ask, Answer, done, value, refused, badRecord, Reply, reply, short, writes, dossierGood, signed, logged, logBytes, standing, mayAsk}
+use Rattle.model.specs.Run.{Question, Call, start, new, load, save, saveClipboard, sign, takeLog, request, ask, Answer, done, refused, badRecord, Reply, reply, short, writes, dossierGood, signed, logged, logBytes, standing, mayAsk}
 use Rattle.twin.specs.Tree.{Tree, node, fnil, kids, count, branch, look, pasteTree, deleteTree, setAt, height, weigh, table, then}
 
 -- ---- what a node and an attribute carry
@@ -306,17 +306,17 @@ orRefused (some n) old s a = (old, reply (refused n) [])
 
 unfoldable pub step : Session → Call → Session × Reply
 step s start = (begun, reply done [])
-step s (new n owner) = orRefused (first ((1, not (dossierGood n && userGood owner)) ∷ [])) s (withDossier n (leaf owner) s) done
+step s (new n owner) = orRefused (firstThat ((1, not (dossierGood n && userGood owner)) ∷ [])) s (withDossier n (leaf owner) s) done
 step s (load n image) =
-    elim (first ((1, not (dossierGood n)) ∷ [])) [
+    elim (firstThat ((1, not (dossierGood n)) ∷ [])) [
       | none ↦ loaded s n image (loadTree image)
       | some k ↦ (s, reply (refused k) (image ∷ []))
     ]
 step s (save n buffer) =
-    let bytes = saved (dossier n s) in writes (first ((1, not (dossierGood n)) ∷ (9, short bytes buffer) ∷ [])) s s bytes buffer
-step s (saveClipboard buffer) = let bytes = savedClip (s .clipboard) in writes (first ((9, short bytes buffer) ∷ [])) s s bytes buffer
-step s (sign user agreement) = orRefused (first ((1, not (userGood user && leb agreement 31)) ∷ [])) s (withSignatures (signed user agreement (s .signatures)) s) done
-step s (takeLog buffer) = let bytes = logBytes (s .log) in writes (first ((9, short bytes buffer) ∷ [])) s (withLog [] s) bytes buffer
+    let bytes = saved (dossier n s) in writes (firstThat ((1, not (dossierGood n)) ∷ (9, short bytes buffer) ∷ [])) s s bytes buffer
+step s (saveClipboard buffer) = let bytes = savedClip (s .clipboard) in writes (firstThat ((9, short bytes buffer) ∷ [])) s s bytes buffer
+step s (sign user agreement) = orRefused (firstThat ((1, not (userGood user && leb agreement 31)) ∷ [])) s (withSignatures (signed user agreement (s .signatures)) s) done
+step s (takeLog buffer) = let bytes = logBytes (s .log) in writes (firstThat ((9, short bytes buffer) ∷ [])) s (withLog [] s) bytes buffer
 step s (request r) = let out = requested s r in (out .0, reply (out .1) [])
 step s (ask image q buffer) = (s, asked image q buffer (imageOf (loadTree image)))
 

@@ -5,11 +5,11 @@ use Rattle.model.specs.Decide.{containsUsers}
 use Rattle.decide.proofs.covers.Statement.{statement}
 use Rattle.decide.proofs.covers.Tie as tie
 
-within-requires : tie.Need-within-requires
-within-requires c κs = search needs
+subset-requires : tie.Need-subset-requires
+subset-requires c κs = search needs
 
-within-requires-2 : tie.Need-within-requires-2
-within-requires-2 c κs = search needs
+subset-requires-2 : tie.Need-subset-requires-2
+subset-requires-2 c κs = search needs
 
 concerns-requires : tie.Need-concerns-requires
 concerns-requires c κs = search needs
@@ -21,7 +21,7 @@ returns : tie.Need-returns
 returns c =
     let a = c .before .before .before .before .before .before .before .args in
     λ i. (c .before .concerns .ensures) i && (containsUsers (a .c .user) (a .g .user)
-    && ((c .spans .ensures) i && ((c .before .before .before .within .ensures) i && (c .before .before .within2 .ensures) i)))
+    && ((c .spans .ensures) i && ((c .before .before .before .subset .ensures) i && (c .before .before .subset2 .ensures) i)))
 
 pub covers-spec : {M : Type 1} → statement M
-covers-spec = tie.close (tie.spec within-requires within-requires-2 concerns-requires spans-requires returns)
+covers-spec = tie.close (tie.spec subset-requires subset-requires-2 concerns-requires spans-requires returns)

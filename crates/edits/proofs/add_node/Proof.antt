@@ -8,7 +8,7 @@ use lib.ListN.{length}
 use Rattle.laws.specs.Sorted.{_∈_, merge}
 use Rattle.path.specs.Address.{Address, up}
 use Rattle.path.specs.View.{steps}
-use Rattle.path.proofs.Structs.{facts}
+use Rattle.path.proofs.Structs.{path-valid, valid-short}
 use Rattle.model.specs.Things.{beforeNode}
 use Rattle.tables.specs.View.{viewNodes, nodesOf}
 use Rattle.tables.proofs.Parts.{dossier-fits, nodes-sound, attributes-sound, permissions-sound}
@@ -29,8 +29,8 @@ paste-requires c κs =
     let b = nodes-count _ t in
     let e = ap length (one .1) in
     let room = s .pre .3 in
-    let f = facts (s .args .q) (s .pre .1) in
-    let short : length (steps (s .args .q)) + 0 ≤ 6 = omega (arith, f .size, f .short) in (
+    let n = valid-short (steps (s .args .q)) (path-valid (s .pre .1)) in
+    let short : length (steps (s .args .q)) + 0 ≤ 6 = omega arith in (
       (one .0, t, s .pre .1, s .pre .2),
       (omega arith, λ r m. subst (λ (z : Address). length (steps (s .args .q)) + length z ≤ 6) (sym (ap (λ x. x .0) (List·Memᴰ·eq-of-singleton (subst (λ l. r ∈ l) (one .1) m)))) short),
     )

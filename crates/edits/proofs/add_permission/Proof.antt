@@ -1,12 +1,11 @@
 -- `edits::add_permission` meets its contract: one table changes. Assumes nothing.
 use native.Mathlib.Omega.{arith}
 use Rattle.path.specs.View.{steps}
-use Rattle.path.proofs.Structs.{facts}
+use Rattle.path.proofs.Structs.{facts, path-valid}
 use Rattle.model.specs.Moves.{grantRow}
 use Rattle.tables.specs.View.{viewGrant}
 use Rattle.tables.proofs.Parts.{dossier-fits, nodes-sound, attributes-sound, permissions-sound}
 use Rattle.tables.proofs.Tables.{nodes-same, attributes-same, permissions-count}
-use Rattle.moves.proofs.Keys.{path-valid}
 use Rattle.edits.proofs.add_permission.Statement.{statement}
 use Rattle.edits.proofs.add_permission.Tie as tie
 

@@ -1,26 +1,23 @@
--- `examples::address` meets its contract: the index stays within the array. Assumes nothing.
+-- `examples::address` meets its contract: the index stays below the path's size. Assumes nothing.
 use borrow.Author.Needs.{needs}
 use Prim.Native.Nat.{_-_, _≤_}
 use Rattle.examples.proofs.address.Statement.{statement}
 use Rattle.examples.proofs.address.Tie as tie
 
 abbrev Inv-loop : tie.InvT-loop
-Inv-loop p n i₀ i = i ≤ 6
+Inv-loop p n i₀ i = i ≤ n
 
 abbrev μ-loop : tie.MeasureT-loop
-μ-loop p n i₀ i = 6 - i
+μ-loop p n i₀ i = n - i
 
-cast-n : tie.Need-cast-n Inv-loop μ-loop
-cast-n c = search needs
+size-requires : tie.Need-size-requires Inv-loop μ-loop
+size-requires c κs = search needs
 
 loop-holds : tie.Need-loop-holds Inv-loop μ-loop
 loop-holds c = search needs
 
-returns : tie.Need-returns Inv-loop μ-loop
-returns c = search needs
-
-element-copy-out-step : tie.Need-element-copy-out-step Inv-loop μ-loop
-element-copy-out-step c = search needs
+step-of-requires : tie.Need-step-of-requires Inv-loop μ-loop
+step-of-requires c κs = search needs
 
 step-requires : tie.Need-step-requires Inv-loop μ-loop
 step-requires c κs = search needs
@@ -34,8 +31,8 @@ loop-less c = search needs
 loop-again : tie.Need-loop-again Inv-loop μ-loop
 loop-again c = search needs
 
-returns-2 : tie.Need-returns-2 Inv-loop μ-loop
-returns-2 c = search needs
+returns : tie.Need-returns Inv-loop μ-loop
+returns c = search needs
 
 pub address-spec : {M : Type 1} → statement M
 address-spec =
@@ -43,12 +40,11 @@ address-spec =
     (tie.spec
     Inv-loop
     μ-loop
-    cast-n
+    size-requires
     loop-holds
-    returns
-    element-copy-out-step
+    step-of-requires
     step-requires
     add-i
     loop-less
     loop-again
-    returns-2)
+    returns)

@@ -1,13 +1,11 @@
--- `examples::at` meets its contract: valid bytes, made canonical, stand for an address, and so does the root's path. Assumes nothing.
+-- `examples::at` meets its contract: valid bytes are made a path, and the root's is one. Assumes nothing.
 use borrow.Author.Needs.{needs}
 use borrow.Author.Tests.{not-false}
-use mathlib.Core.Bool.{true}
-use mathlib.Core.Path.{_≡_, sym, subst, _∙_}
+use mathlib.Core.Path.{sym, subst, _∙_}
 use lib.Dec.{T}
-use lib.ListN.{length}
 use Rattle.path.specs.Address.{valid}
-use Rattle.path.specs.View.{asked, PathSound}
-use Rattle.path.proofs.Structs.{canonical-sound}
+use Rattle.path.specs.View.{asked}
+use Rattle.path.proofs.Structs.{valid-sound}
 use Rattle.examples.proofs.at.Statement.{statement}
 use Rattle.examples.proofs.at.Tie as tie
 
@@ -20,15 +18,16 @@ root-requires c κs = search needs
 returns : tie.Need-returns
 returns c = search needs
 
-canonical-requires : tie.Need-canonical-requires
-canonical-requires c κs = search needs
+good : (c : tie.Else1) → T (valid (asked (record { len = c .before .before .args .len; steps = c .before .before .args .steps })))
+good c = subst T (sym (sym (c .before .is-valid .ensures) ∙ not-false _ (c .if1 .left))) tt
+
+path-of-requires : tie.Need-path-of-requires
+path-of-requires c κs = good c
 
 returns-2 : tie.Need-returns-2
 returns-2 c =
     let a = c .before .before .before .args in
-    let full : length (a .steps) ≡ 6 = search needs in
-    let e : valid (asked (record { len = a .len; steps = a .steps })) ≡ true = sym (c .before .before .is-valid .ensures) ∙ not-false _ (c .before .if1 .left) in
-    subst PathSound (sym (c .canonical .ensures)) (canonical-sound (record { len = a .len; steps = a .steps }) full (subst T (sym e) tt))
+    valid-sound (record { len = a .len; steps = a .steps }) (good (c .before)) (c .path-of .ensures)
 
 pub at-spec : {M : Type 1} → statement M
-at-spec = tie.close (tie.spec is-valid-requires root-requires returns canonical-requires returns-2)
+at-spec = tie.close (tie.spec is-valid-requires root-requires returns path-of-requires returns-2)

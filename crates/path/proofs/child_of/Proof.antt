@@ -4,9 +4,9 @@ use mathlib.Core.Path.{refl, ap, _∙_}
 use mathlib.Core.List.{[], _∷_}
 use native.Mathlib.Omega.{arith}
 use lib.ListN.{set, length-append}
-use Rattle.path.specs.Address.{child, within}
+use Rattle.path.specs.Address.{child, inDepth}
 use Rattle.path.specs.View.{steps}
-use Rattle.path.proofs.Structs.{facts, path-is, slots-next, there, gone, within-fits, within-deep}
+use Rattle.path.proofs.Structs.{facts, path-is, slots-next, there, gone, inDepth-fits, inDepth-deep}
 use Rattle.path.proofs.child_of.Statement.{statement}
 use Rattle.path.proofs.child_of.Tie as tie
 
@@ -20,7 +20,7 @@ returns c =
     let f = facts p (s .pre) in
     let size = f .size in
     let n = length-append (steps p) (s .args .s ∷ []) in
-    gone (within (child (steps p) (s .args .s))) refl (c .root .ensures) (within-deep (child (steps p) (s .args .s)) (omega arith))
+    gone (inDepth (child (steps p) (s .args .s))) refl (c .root .ensures) (inDepth-deep (child (steps p) (s .args .s)) (omega arith))
 
 cast-at : tie.Need-cast-at
 cast-at c = search needs
@@ -38,9 +38,9 @@ returns-2 c =
     let f = facts p (s .pre) in
     let size = f .size in
     let n = length-append (steps p) (s .args .s ∷ []) in
-    there (within (child (steps p) (s .args .s))) refl
+    there (inDepth (child (steps p) (s .args .s))) refl
     (path-is (child (steps p) (s .args .s)) (omega arith) (ap (λ r. set r (p .len) (s .args .s)) (f .array) ∙ slots-next 6 0 (steps p) (s .args .s) (p .len) (omega arith) size))
-    (within-fits (child (steps p) (s .args .s)) (omega arith))
+    (inDepth-fits (child (steps p) (s .args .s)) (omega arith))
 
 pub child-of-spec : {M : Type 1} → statement M
 child-of-spec = tie.close (tie.spec root-requires returns cast-at element-write-r add-r returns-2)

@@ -6,16 +6,16 @@ use mathlib.Core.Path.{_≡_, sym, ap, _∙_}
 use Prim.Native.Nat.{ℕ, _+_, _-_, _≤_}
 use native.Mathlib.Omega.{arith}
 use lib.Dec.{leb}
-use lib.ListN.{length, drop, getD}
+use lib.ListN.{length, take, drop, getD}
 use Rattle.laws.proofs.Fill.{list-next, list-end}
 use Rattle.path.specs.Address.{valid, stepsGood}
-use Rattle.path.specs.View.{steps, asked}
+use Rattle.path.specs.View.{asked}
 use Rattle.path.proofs.Structs.{asked-deep, asked-good}
 use Rattle.path.proofs.is_valid.Statement.{statement}
 use Rattle.path.proofs.is_valid.Tie as tie
 
 abbrev Inv-loop : tie.InvT-loop
-Inv-loop p n i₀ i = (i ≤ n) × (valid (asked p) ≡ stepsGood (drop i (steps p)))
+Inv-loop p n i₀ i = (i ≤ n) × (valid (asked p) ≡ stepsGood (drop i (take (p .len) (p .steps))))
 
 abbrev μ-loop : tie.MeasureT-loop
 μ-loop p n i₀ i = n - i
@@ -26,7 +26,7 @@ seen c = getD (c .before .before .before .args .t1 .steps) (c .before .loop .i) 
 
 next : (c : tie.In-loop Inv-loop μ-loop)
     → valid (asked (c .before .before .before .args .t1))
-    ≡ ((leb 1 (seen c) && leb (seen c) 32) && stepsGood (drop (c .before .loop .i + 1) (steps (c .before .before .before .args .t1))))
+    ≡ ((leb 1 (seen c) && leb (seen c) 32) && stepsGood (drop (c .before .loop .i + 1) (take (c .before .before .before .args .t1 .len) (c .before .before .before .args .t1 .steps))))
 next c =
     let p = c .before .before .before .args .t1 in
     let l = c .before .loop in

@@ -7,9 +7,9 @@ use native.Mathlib.Omega.{arith}
 use lib.ListN.{length, take, length-append, length-set}
 use lib.Seq.{take-all}
 use Rattle.laws.specs.Slots.{slots}
-use Rattle.path.specs.Address.{on, within}
+use Rattle.path.specs.Address.{on, inDepth}
 use Rattle.path.specs.View.{steps}
-use Rattle.path.proofs.Structs.{facts, path-is, slots-copy, there, gone, within-fits, within-deep}
+use Rattle.path.proofs.Structs.{facts, path-is, slots-copy, there, gone, inDepth-fits, inDepth-deep}
 use Rattle.path.proofs.path_on.Statement.{statement}
 use Rattle.path.proofs.path_on.Tie as tie
 
@@ -35,7 +35,7 @@ returns c =
     let sq = facts (s .args .q) (s .pre .1) .size in
     let n = length-append (steps (s .args .q)) (steps (s .args .t1)) in
     let l = on (steps (s .args .q)) (steps (s .args .t1)) in
-    gone (within l) refl (c .root .ensures) (within-deep l (omega arith))
+    gone (inDepth l) refl (c .root .ensures) (inDepth-deep l (omega arith))
 
 cast-k : tie.Need-cast-k Inv-loop μ-loop
 cast-k c = search needs
@@ -88,9 +88,9 @@ returns-2 c =
     let sp = facts p (s .pre .0) .size in
     let sq = facts q (s .pre .1) .size in
     let n = length-append (steps q) (steps p) in
-    there (within (on (steps q) (steps p))) refl
+    there (inDepth (on (steps q) (steps p))) refl
     (path-is (on (steps q) (steps p)) (omega arith) (l .inv .2 ∙ ap (λ r. slots 6 0 (steps q ++ r)) (take-all (l .i) (steps p) (omega arith))))
-    (within-fits (on (steps q) (steps p)) (omega arith))
+    (inDepth-fits (on (steps q) (steps p)) (omega arith))
 
 pub path-on-spec : {M : Type 1} → statement M
 path-on-spec =

@@ -1,17 +1,17 @@
--- `bounds::show::address` is safe: the index stays within the array. Assumes nothing.
+-- `bounds::show::address` is safe: the index stays below the path's size. Assumes nothing.
 use borrow.Author.Needs.{needs}
 use Prim.Native.Nat.{_≤_, _-_}
 use Rattle.bounds.proofs.show.address.Statement.{statement}
 use Rattle.bounds.proofs.show.address.Tie as tie
 
 abbrev Inv-loop : tie.InvT-loop
-Inv-loop p n i₀ i = i ≤ 6
+Inv-loop p n i₀ i = i ≤ n
 
 abbrev μ-loop : tie.MeasureT-loop
-μ-loop p n i₀ i = 6 - i
+μ-loop p n i₀ i = n - i
 
-cast-n : tie.Need-cast-n Inv-loop μ-loop
-cast-n c = search needs
+size-requires : tie.Need-size-requires Inv-loop μ-loop
+size-requires c κs = search needs
 
 slice-aggregate-text : tie.Need-slice-aggregate-text Inv-loop μ-loop
 slice-aggregate-text c = search needs
@@ -25,11 +25,8 @@ returns c = search needs
 loop-holds : tie.Need-loop-holds Inv-loop μ-loop
 loop-holds c = search needs
 
-returns-2 : tie.Need-returns-2 Inv-loop μ-loop
-returns-2 c = search needs
-
-element-copy-out-step : tie.Need-element-copy-out-step Inv-loop μ-loop
-element-copy-out-step c = search needs
+step-of-requires : tie.Need-step-of-requires Inv-loop μ-loop
+step-of-requires c κs = search needs
 
 step-requires : tie.Need-step-requires Inv-loop μ-loop
 step-requires c κs = search needs
@@ -43,8 +40,8 @@ loop-less c = search needs
 loop-again : tie.Need-loop-again Inv-loop μ-loop
 loop-again c = search needs
 
-returns-3 : tie.Need-returns-3 Inv-loop μ-loop
-returns-3 c = search needs
+returns-2 : tie.Need-returns-2 Inv-loop μ-loop
+returns-2 c = search needs
 
 pub address-spec : {M : Type 1} → statement M
 address-spec =
@@ -52,15 +49,14 @@ address-spec =
     (tie.spec
     Inv-loop
     μ-loop
-    cast-n
+    size-requires
     slice-aggregate-text
     text-requires
     returns
     loop-holds
-    returns-2
-    element-copy-out-step
+    step-of-requires
     step-requires
     add-i
     loop-less
     loop-again
-    returns-3)
+    returns-2)

@@ -1,58 +1,54 @@
--- `moves::attributes::changed` meets its contract: one pass: the value changes where the row is found. Assumes nothing.
+-- `moves::attributes::changed` meets its contract: the value changes where the row is found; a node has one attribute for a name. Assumes nothing.
 use borrow.Author.Needs.{needs}
-use mathlib.Core.Path.{_≡_, ap, sym, _∙_}
+use mathlib.Core.Path.{_≡_, refl, ap, sym, subst, _∙_}
 use mathlib.Core.Bool.{true, false}
-use mathlib.Core.List.{_∷_, map}
+use mathlib.Core.List.{_∷_, _++_, map}
 use Prim.Native.Nat.{_≤_, _+_, _-_}
 use native.Mathlib.Omega.{arith}
-use lib.ListN.{drop, getD}
-use Rattle.laws.proofs.Fill.{Fills, held-room, held-each, held-next, row-end, is-fits}
+use lib.ListN.{take, drop, getD, set}
+use Rattle.laws.proofs.Fill.{held-room, held-each, held-next, row-end, is-fits, is-same}
+use Rattle.laws.proofs.Inplace.{held-size, held-store, unchanged, changed-one, unchanged-all}
 use Rattle.path.specs.View.{steps}
-use Rattle.model.specs.Things.{beforeAttribute}
-use Rattle.model.specs.Sound.{Fits}
+use Rattle.model.specs.Things as things
+use Rattle.model.specs.Things.{Row, beforeAttribute}
 use Rattle.tables.specs.declared.Attribute.{Attribute}
-use Rattle.tables.specs.View.{AttributeSound, viewValue, viewAttribute, attributeOf, viewAttributes, attributesOf, attributesWith, blankAttribute, noAttribute}
-use Rattle.tables.proofs.Rows.{attributes-held, attribute-same, view-attributes}
-use Rattle.moves.specs.Room.{changedIn}
-use Rattle.moves.proofs.Stored.{revalued-at, begin-as, store, finish}
-use Rattle.moves.proofs.Changed.{isAt, revalue, value-stays, value-new, changed-is}
+use Rattle.tables.specs.View.{AttributeSound, viewValue, viewAttribute, attributeOf, viewAttributes, attributesOf, attributesWith, noAttribute, Fits}
+use Rattle.tables.proofs.Rows.{attributes-held, view-attribute, view-attributes}
+use Rattle.moves.proofs.Stored.{revalued-at}
+use Rattle.moves.proofs.Changed.{isAt, revalue, value-stays, value-new, others-stay, changed-is}
 use Rattle.moves.proofs.attributes.changed.Statement.{statement}
 use Rattle.moves.proofs.attributes.changed.Tie as tie
 
 abbrev Inv-loop : tie.InvT-loop
-Inv-loop p name v t n out₀ i₀ out i =
-    (i ≤ n) × (n ≤ 256)
-    × Fills attributesWith attributeOf (λ l. l) 256 (attributesOf (changedIn (steps p) name (viewValue v) (viewAttributes t))) (out .rows) i
-    (map (revalue (steps p) name (viewValue v)) (drop i (viewAttributes t)))
+Inv-loop p name v n out₀ i₀ out i =
+    (i ≤ n) × (n ≤ 256) × (out ≡ out₀)
+    × (map (revalue (steps p) name (viewValue v)) (viewAttributes out₀) ≡ take i (viewAttributes out₀) ++ map (revalue (steps p) name (viewValue v)) (drop i (viewAttributes out₀)))
 
 abbrev μ-loop : tie.MeasureT-loop
-μ-loop p name v t n out₀ i₀ out i = n - i
+μ-loop p name v n out₀ i₀ out i = n - i
 
 abbrev start : tie.In-loop Inv-loop μ-loop → tie.Start Inv-loop μ-loop
-start c = c .before .before .before
+start c = c .before .before
+
+abbrev change : tie.Start Inv-loop μ-loop → Row things.Attribute → Row things.Attribute
+change s = revalue (steps (s .args .p)) (s .args .name) (viewValue (s .args .v))
 
 abbrev here : tie.In-loop Inv-loop μ-loop → Attribute
-here c = getD (start c .args .t1 .rows) (c .before .loop .i) noAttribute
+here c = getD (c .before .loop .out .rows) (c .before .loop .i) noAttribute
 
 row : (c : tie.In-loop Inv-loop μ-loop) → AttributeSound (here c)
-row c = held-each _ _ _ _ _ _ (attributes-held (start c .args .t1) (start c .pre .0)) (c .before .loop .i) noAttribute (c .loop-test .taken)
+row c =
+    subst (λ z. AttributeSound (getD (z .rows) (c .before .loop .i) noAttribute)) (sym (c .before .loop .inv .2))
+    (held-each _ _ _ _ _ _ (attributes-held (start c .args .t) (start c .pre .0)) (c .before .loop .i) noAttribute (c .loop-test .taken))
 
 next : (c : tie.In-loop Inv-loop μ-loop)
-    → drop (c .before .loop .i) (viewAttributes (start c .args .t1)) ≡ viewAttribute (here c) ∷ drop (c .before .loop .i + 1) (viewAttributes (start c .args .t1))
-next c = held-next _ _ _ _ _ _ (attributes-held (start c .args .t1) (start c .pre .0)) viewAttribute (c .before .loop .i) noAttribute (c .loop-test .taken)
-
-no-attributes-requires : tie.Need-no-attributes-requires Inv-loop μ-loop
-no-attributes-requires c κs = search needs
+    → drop (c .before .loop .i) (viewAttributes (start c .args .t)) ≡ viewAttribute (here c) ∷ drop (c .before .loop .i + 1) (viewAttributes (start c .args .t))
+next c =
+    held-next _ _ _ _ _ _ (attributes-held (start c .args .t) (start c .pre .0)) viewAttribute (c .before .loop .i) noAttribute (c .loop-test .taken)
+    ∙ ap (λ z. viewAttribute (getD (z .rows) (c .before .loop .i) noAttribute) ∷ drop (c .before .loop .i + 1) (viewAttributes (start c .args .t))) (sym (c .before .loop .inv .2))
 
 loop-holds : tie.Need-loop-holds Inv-loop μ-loop
-unfolding attributesOf
-loop-holds c =
-    let s = c .before in
-    let f = is-fits attributesOf viewAttributes view-attributes (Fits beforeAttribute 256) (s .args .t1) (s .pre .0) in (
-      search needs,
-      held-room _ _ _ _ _ _ (attributes-held (s .args .t1) (s .pre .0)),
-      begin-as attributesWith attributeOf 256 blankAttribute _ (changed-is (steps (s .args .p)) (viewValue (s .args .v)) (f .ascend) (s .pre .2) (s .args .name)) (ap (λ x. x .rows) (c .no-attributes .ensures)),
-    )
+loop-holds c = (search needs, held-room _ _ _ _ _ _ (attributes-held (c .args .t) (c .pre .0)), refl, refl)
 
 mul-a : tie.Need-mul-a Inv-loop μ-loop
 mul-a c = search needs
@@ -72,6 +68,23 @@ mul-b c = search needs
 element-set-from-b : tie.Need-element-set-from-b Inv-loop μ-loop
 element-set-from-b c = search needs
 
+returns : tie.Need-returns Inv-loop μ-loop
+unfolding attributesOf
+returns c =
+    let e = c .before .before .before .before in
+    let s = start e in
+    let l = e .before .loop in
+    let h = attributes-held (s .args .t) (s .pre .0) in
+    let f = is-fits attributesOf viewAttributes view-attributes (Fits beforeAttribute 256) (s .args .t) (s .pre .0) in
+    let size = held-size h viewAttribute in
+    let hit : isAt (steps (s .args .p)) (s .args .name) (viewAttribute (here e)) ≡ true = sym (c .before .before .is-at .ensures) ∙ c .before .if1 .taken in
+    ap (λ z. attributesWith (set (z .rows) (l .i) (c .revalued .result)) (z .count)) (l .inv .2)
+    ∙ held-store h viewAttribute view-attribute attributesWith (l .i) (change s (viewAttribute (here e))) _ (e .loop-test .taken)
+    (c .revalued .ensures ∙ revalued-at (here e) (s .args .v) (row e) ∙ ap attributeOf (sym (value-new (steps (s .args .p)) (s .args .name) (viewValue (s .args .v)) (viewAttribute (here e)) hit)))
+    ∙ ap attributesOf (sym (changed-one (change s) (viewAttributes (s .args .t)) (l .i) (l .inv .3) (viewAttribute (here e)) (omega arith) (next e)
+    (others-stay (steps (s .args .p)) (viewValue (s .args .v)) (f .ascend) (s .pre .2) (s .args .name) (l .i) (viewAttribute (here e)) _ (next e) hit))
+    ∙ changed-is (steps (s .args .p)) (viewValue (s .args .v)) (f .ascend) (s .pre .2) (s .args .name))
+
 add-i : tie.Need-add-i Inv-loop μ-loop
 add-i c = search needs
 
@@ -80,50 +93,25 @@ loop-less c = search needs
 
 loop-again : tie.Need-loop-again Inv-loop μ-loop
 loop-again c =
-    let e = c .before .before .before .before in
-    let s = start e in
-    let l = e .before .loop in
-    let a = viewAttribute (here e) in
-    let hit : isAt (steps (s .args .p)) (s .args .name) a ≡ true = sym (c .before .before .is-at .ensures) ∙ c .before .if1 .taken in (
-      search needs,
-      search needs,
-      store attributesWith attributeOf 256 _ _ (l .i) (l .inv .2) _ _ _ (omega arith) (ap (map (revalue (steps (s .args .p)) (s .args .name) (viewValue (s .args .v)))) (next e))
-          (c .revalued .ensures ∙ revalued-at (here e) (s .args .v) (row e) ∙ ap attributeOf (sym (value-new (steps (s .args .p)) (s .args .name) (viewValue (s .args .v)) a hit))),
-    )
-
-mul-a-2 : tie.Need-mul-a-2 Inv-loop μ-loop
-mul-a-2 c = search needs
-
-element-set-from-a : tie.Need-element-set-from-a Inv-loop μ-loop
-element-set-from-a c = search needs
-
-add-i-2 : tie.Need-add-i-2 Inv-loop μ-loop
-add-i-2 c = search needs
-
-loop-less-2 : tie.Need-loop-less-2 Inv-loop μ-loop
-loop-less-2 c = search needs
-
-loop-again-2 : tie.Need-loop-again-2 Inv-loop μ-loop
-loop-again-2 c =
     let e = c .before .before .before in
     let s = start e in
     let l = e .before .loop in
-    let a = viewAttribute (here e) in
-    let miss : isAt (steps (s .args .p)) (s .args .name) a ≡ false = sym (c .before .is-at .ensures) ∙ c .if1 .left in (
+    let miss : isAt (steps (s .args .p)) (s .args .name) (viewAttribute (here e)) ≡ false = sym (c .before .is-at .ensures) ∙ c .if1 .left in (
       search needs,
       search needs,
-      store attributesWith attributeOf 256 _ _ (l .i) (l .inv .2) _ _ _ (omega arith) (ap (map (revalue (steps (s .args .p)) (s .args .name) (viewValue (s .args .v)))) (next e))
-          (attribute-same (here e) (row e) ∙ ap attributeOf (sym (value-stays (steps (s .args .p)) (s .args .name) (viewValue (s .args .v)) a miss))),
+      l .inv .2,
+      unchanged (change s) (viewAttributes (s .args .t)) (l .i) (l .inv .3) (viewAttribute (here e)) (next e) (value-stays (steps (s .args .p)) (s .args .name) (viewValue (s .args .v)) (viewAttribute (here e)) miss),
     )
 
-returns : tie.Need-returns Inv-loop μ-loop
-returns c =
-    let s = c .before .before .before in
+returns-2 : tie.Need-returns-2 Inv-loop μ-loop
+returns-2 c =
+    let s = c .before .before in
     let l = c .before .loop in
-    let e : l .i ≡ s .args .t1 .count = omega arith in
-    ap (attributesWith (l .out .rows)) (sym e)
-    ∙ finish attributesWith attributeOf 256 _ _ (l .i) (l .inv .2)
-    (ap (map (revalue (steps (s .args .p)) (s .args .name) (viewValue (s .args .v)))) (row-end viewAttribute (s .args .t1 .rows) (s .args .t1 .count) (l .i) (c .loop-test .left)))
+    let f = is-fits attributesOf viewAttributes view-attributes (Fits beforeAttribute 256) (s .args .t) (s .pre .0) in
+    l .inv .2
+    ∙ is-same attributesOf viewAttributes view-attributes (Fits beforeAttribute 256) (s .args .t) (s .pre .0)
+    ∙ ap attributesOf (sym (unchanged-all (change s) (viewAttributes (s .args .t)) (l .i) (l .inv .3) (row-end viewAttribute (s .args .t .rows) (s .args .t .count) (l .i) (c .loop-test .left)))
+    ∙ changed-is (steps (s .args .p)) (viewValue (s .args .v)) (f .ascend) (s .pre .2) (s .args .name))
 
 pub changed-spec : {M : Type 1} → statement M
 changed-spec =
@@ -131,7 +119,6 @@ changed-spec =
     (tie.spec
     Inv-loop
     μ-loop
-    no-attributes-requires
     loop-holds
     mul-a
     element-copy-out-a
@@ -139,12 +126,8 @@ changed-spec =
     revalued-requires
     mul-b
     element-set-from-b
+    returns
     add-i
     loop-less
     loop-again
-    mul-a-2
-    element-set-from-a
-    add-i-2
-    loop-less-2
-    loop-again-2
-    returns)
+    returns-2)

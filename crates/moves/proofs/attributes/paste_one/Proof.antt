@@ -1,27 +1,18 @@
 -- `moves::attributes::paste_one` meets its contract: the cached row under its new name, inserted. Assumes nothing.
 use borrow.Author.Needs.{needs}
 use mathlib.Core.Path.{_≡_, ap, sym, subst, _∙_}
-use mathlib.Core.List.{[], _∷_}
 use mathlib.Core.Option.{none}
 use lib.ListN.{getD}
 use Rattle.laws.specs.Sorted.{insert}
 use Rattle.path.specs.View.{steps}
-use Rattle.path.proofs.Structs.{facts}
-use Rattle.model.specs.Things as things
+use Rattle.path.proofs.Structs.{facts, path-valid}
 use Rattle.model.specs.Things.{beforeAttribute}
 use Rattle.model.specs.Moves.{attributeIn}
 use Rattle.tables.specs.declared.Attribute.{Attribute}
-use Rattle.tables.specs.declared.Attributes.{Attributes}
-use Rattle.tables.specs.View.{viewAttribute, viewAttributes, attributeOf, attributesOf, viewValue, noAttribute}
-use Rattle.tables.proofs.Rows.{value-back, value-there}
-use Rattle.moves.proofs.Keys.{path-valid}
+use Rattle.tables.specs.View.{viewAttribute, viewAttributes, attributesOf, viewValue, noAttribute}
+use Rattle.tables.proofs.Rows.{value-there}
 use Rattle.moves.proofs.attributes.paste_one.Statement.{statement}
 use Rattle.moves.proofs.attributes.paste_one.Tie as tie
-
--- the first row of a table that holds one
-first-row : (t : Attributes) (a : things.Attribute) → t ≡ attributesOf (([], a) ∷ []) → getD (t .rows) 0 noAttribute ≡ attributeOf ([], a)
-unfolding attributesOf
-first-row t a e = ap (λ (x : Attributes). getD (x .rows) 0 noAttribute) e
 
 renamed-requires : tie.Need-renamed-requires
 renamed-requires c κs = search needs
@@ -45,13 +36,8 @@ insert-requires c κs =
 returns : tie.Need-returns
 returns c =
     let s = c .before .before in
-    λ a e.
-    let f = first-row (s .args .c) a e in
-    let v = value-back (a .value) in
     c .insert .ensures
     ∙ ap (λ z. attributesOf (insert beforeAttribute (viewAttribute z) (viewAttributes (s .args .t)))) (c .before .renamed .ensures)
-    ∙ ap (λ (z : Attribute). attributesOf (insert beforeAttribute (steps (s .args .p), record { name = s .args .name; owner = z .owner; value = viewValue (z .value) }) (viewAttributes (s .args .t)))) f
-    ∙ ap (λ x. attributesOf (insert beforeAttribute (steps (s .args .p), record { name = s .args .name; owner = a .owner; value = x }) (viewAttributes (s .args .t)))) v
 
 pub paste-one-spec : {M : Type 1} → statement M
 paste-one-spec = tie.close (tie.spec renamed-requires insert-requires returns)

@@ -1,54 +1,58 @@
--- `moves::permissions::insert` meets its contract: rows are copied until one comes after the new row; then that row, and the rest. Assumes nothing.
+-- `moves::permissions::insert` meets its contract: from the end rows move up by one until one comes before the new row; the new row goes behind that. Assumes nothing.
 use borrow.Author.Needs.{needs}
-use mathlib.Core.Path.{_≡_, ap, sym, _∙_}
+use mathlib.Core.Path.{_≡_, refl, ap, sym, _∙_}
 use mathlib.Core.Bool.{true, false}
-use mathlib.Core.List.{[], _∷_, Memᴰ·cast}
+use mathlib.Core.List.{Memᴰ·cast}
 use Prim.Native.Nat.{_≤_, _<_, _+_, _-_}
 use native.Mathlib.Omega.{arith}
-use lib.ListN.{drop, getD, set}
+use lib.ListN.{take, getD}
 use Rattle.laws.specs.Sorted.{insert}
-use Rattle.laws.proofs.Fill.{Fills, begin, fill-end, held-each, held-next, row-end}
+use Rattle.laws.proofs.Fill.{is-fits}
+use Rattle.laws.proofs.Inplace.{Falls, falls, fall, fall-each, fall-last, fallen, held-length, held-size, held-all, held-blank, held-first}
+use Rattle.laws.proofs.Last.{Ends, ends-in, in-take, sorted-take, insert-alone, insert-up, insert-end, insert-length}
 use Rattle.model.specs.Things.{beforePermission}
 use Rattle.roundtrip.proofs.Orders.{permissions-order}
 use Rattle.tables.specs.declared.Permission.{Permission}
-use Rattle.tables.specs.View.{PermissionSound, viewPermission, permissionOf, viewPermissions, permissionsOf, permissionsWith, blankPermission, noPermission}
-use Rattle.tables.proofs.Rows.{permissions-held, permission-same}
-use Rattle.moves.proofs.Stored.{store, resumed}
-use Rattle.moves.proofs.Merged.{in-rest, insert-here, insert-past}
+use Rattle.tables.specs.View.{PermissionSound, viewPermission, permissionOf, viewPermissions, permissionsOf, permissionsWith, blankPermission, noPermission, Fits}
+use Rattle.tables.proofs.Rows.{permissions-held, permission-same, view-permission, view-permissions}
 use Rattle.moves.proofs.permissions.insert.Statement.{statement}
 use Rattle.moves.proofs.permissions.insert.Tie as tie
 
 abbrev Inv-loop : tie.InvT-loop
-Inv-loop a t n out₀ i₀ out i =
+Inv-loop a n out₀ i₀ out i =
     (i ≤ n) × (n < 128)
-    × Fills permissionsWith permissionOf (λ l. l) 128 (permissionsOf (insert beforePermission (viewPermission a) (viewPermissions t))) (out .rows) i (insert beforePermission (viewPermission a) (drop i (viewPermissions t)))
+    × Falls permissionsWith permissionOf 128 (out₀ .rows) (permissionsOf (insert beforePermission (viewPermission a) (viewPermissions out₀))) (n + 1) (out .rows) i (i + 1) (insert beforePermission (viewPermission a) (take i (viewPermissions out₀)))
 
 abbrev μ-loop : tie.MeasureT-loop
-μ-loop a t n out₀ i₀ out i = n - i
+μ-loop a n out₀ i₀ out i = i
 
 abbrev start : tie.In-loop Inv-loop μ-loop → tie.Start Inv-loop μ-loop
-start c = c .before .before .before
+start c = c .before .before
 
 abbrev here : tie.In-loop Inv-loop μ-loop → Permission
-here c = getD (start c .args .t2 .rows) (c .before .loop .i) noPermission
+here c = getD (c .before .loop .out .rows) (c .before .loop .i - 1) noPermission
 
 row : (c : tie.In-loop Inv-loop μ-loop) → PermissionSound (here c)
-row c = held-each _ _ _ _ _ _ (permissions-held (start c .args .t2) (start c .pre .1)) (c .before .loop .i) noPermission (c .loop-test .taken)
+row c = fall-each (c .before .loop .inv .2) (permissions-held (start c .args .t) (start c .pre .1)) noPermission (c .loop-test .taken) (c .before .loop .inv .0)
 
-next : (c : tie.In-loop Inv-loop μ-loop)
-    → drop (c .before .loop .i) (viewPermissions (start c .args .t2)) ≡ viewPermission (here c) ∷ drop (c .before .loop .i + 1) (viewPermissions (start c .args .t2))
-next c = held-next _ _ _ _ _ _ (permissions-held (start c .args .t2) (start c .pre .1)) viewPermission (c .before .loop .i) noPermission (c .loop-test .taken)
-
-no-permissions-requires : tie.Need-no-permissions-requires Inv-loop μ-loop
-no-permissions-requires c κs = search needs
+last : (c : tie.In-loop Inv-loop μ-loop)
+    → Ends (take (c .before .loop .i) (viewPermissions (start c .args .t))) (take (c .before .loop .i - 1) (viewPermissions (start c .args .t))) (viewPermission (here c))
+last c = fall-last (c .before .loop .inv .2) (permissions-held (start c .args .t) (start c .pre .1)) noPermission (c .loop-test .taken) (c .before .loop .inv .0) viewPermission
 
 loop-holds : tie.Need-loop-holds Inv-loop μ-loop
 unfolding permissionsOf
-loop-holds c = (
-  search needs,
-  search needs,
-  begin permissionsWith permissionOf (λ l. l) 128 blankPermission _ _ (ap (λ x. x .rows) (c .no-permissions .ensures)),
-)
+loop-holds c =
+    let h = permissions-held (c .args .t) (c .pre .1) in
+    let a = viewPermission (c .args .a) in
+    let new = insert-length beforePermission permissions-order a (viewPermissions (c .args .t)) (c .pre .3) in (
+      search needs,
+      search needs,
+      falls permissionsWith permissionOf 128 _ blankPermission _ _ (ap (insert beforePermission a) (sym (held-all h viewPermission))) (held-length h)
+          (new ∙ ap (λ k. k + 1) (held-size h viewPermission)) (held-blank h (c .args .t .count + 1) (omega arith)),
+    )
+
+sub-j : tie.Need-sub-j Inv-loop μ-loop
+sub-j c = search needs
 
 mul-b : tie.Need-mul-b Inv-loop μ-loop
 mul-b c = search needs
@@ -59,37 +63,11 @@ element-copy-out-b c = search needs
 permission-before-requires : tie.Need-permission-before-requires Inv-loop μ-loop
 permission-before-requires c κs = (start (c .before) .pre .0, row (c .before))
 
-mul-a : tie.Need-mul-a Inv-loop μ-loop
-mul-a c = search needs
-
-element-set-from-a : tie.Need-element-set-from-a Inv-loop μ-loop
-element-set-from-a c = search needs
-
-add-rest : tie.Need-add-rest Inv-loop μ-loop
-add-rest c = search needs
-
-rest-requires : tie.Need-rest-requires Inv-loop μ-loop
-rest-requires c κs =
-    let s = start (c .before .before .before) in
-    (s .pre .1, omega arith, omega arith)
-
-returns : tie.Need-returns Inv-loop μ-loop
-returns c =
-    let e = c .before .before .before .before in
-    let s = start e in
-    let l = e .before .loop in
-    let hit : beforePermission (viewPermission (s .args .a)) (viewPermission (here e)) ≡ true = sym (c .before .before .permission-before .ensures) ∙ c .before .if1 .taken in
-    resumed permissionsWith permissionOf 128 _ _ _ (store permissionsWith permissionOf 128 _ _ (l .i) (l .inv .2) (viewPermission (s .args .a)) _ _ (omega arith)
-    (insert-here beforePermission (viewPermission (s .args .a)) (viewPermission (here e)) (next e) hit) (permission-same (s .args .a) (s .pre .0))) (c .rest .ensures)
-
 mul-b-2 : tie.Need-mul-b-2 Inv-loop μ-loop
 mul-b-2 c = search needs
 
 element-set-from-b : tie.Need-element-set-from-b Inv-loop μ-loop
 element-set-from-b c = search needs
-
-add-i : tie.Need-add-i Inv-loop μ-loop
-add-i c = search needs
 
 loop-less : tie.Need-loop-less Inv-loop μ-loop
 loop-less c = search needs
@@ -99,31 +77,49 @@ loop-again c =
     let e = c .before .before .before in
     let s = start e in
     let l = e .before .loop in
-    let miss : beforePermission (viewPermission (s .args .a)) (viewPermission (here e)) ≡ false = sym (c .before .permission-before .ensures) ∙ c .if1 .left in (
+    let past : beforePermission (viewPermission (s .args .a)) (viewPermission (here e)) ≡ true = sym (c .before .permission-before .ensures) ∙ c .if1 .taken in (
       search needs,
       search needs,
-      store permissionsWith permissionOf 128 _ _ (l .i) (l .inv .2) (viewPermission (here e)) _ _ (omega arith)
-          (insert-past beforePermission (viewPermission (s .args .a)) (viewPermission (here e)) (next e) permissions-order (λ d. s .pre .3 (Memᴰ·cast d (in-rest (viewPermission (here e)) (l .i) (viewPermissions (s .args .t2)) (next e)))) miss) (permission-same (here e) (row e)),
+      fall (l .inv .2) _ (l .i) (l .i - 1) (l .i - 1 + 1) refl (omega arith) (omega arith) (omega arith) (omega arith)
+          (insert-up beforePermission (viewPermission (s .args .a)) (last e) past) (permission-same (here e) (row e)),
     )
 
-mul-a-2 : tie.Need-mul-a-2 Inv-loop μ-loop
-mul-a-2 c = search needs
+mul-a : tie.Need-mul-a Inv-loop μ-loop
+mul-a c = search needs
 
-element-set-from-a-2 : tie.Need-element-set-from-a-2 Inv-loop μ-loop
-element-set-from-a-2 c = search needs
+element-set-from-a : tie.Need-element-set-from-a Inv-loop μ-loop
+element-set-from-a c = search needs
 
 add-out : tie.Need-add-out Inv-loop μ-loop
 add-out c = search needs
 
+returns : tie.Need-returns Inv-loop μ-loop
+returns c =
+    let e = c .before .before .before in
+    let s = start e in
+    let l = e .before .loop in
+    let h = permissions-held (s .args .t) (s .pre .1) in
+    let f = is-fits permissionsOf viewPermissions view-permissions (Fits beforePermission 128) (s .args .t) (s .pre .1) in
+    let hit : beforePermission (viewPermission (s .args .a)) (viewPermission (here e)) ≡ false = sym (c .before .permission-before .ensures) ∙ c .if1 .left in
+    fallen
+    (fall (l .inv .2) _ (l .i) (l .i) (l .i) refl refl (omega arith) (omega arith) (omega arith)
+    (insert-end beforePermission permissions-order (viewPermission (s .args .a)) (sorted-take beforePermission (l .i) (f .ascend)) (last e) (λ d. s .pre .3 (Memᴰ·cast d (in-take (l .i) _ (ends-in (last e))))) hit) (permission-same (s .args .a) (s .pre .0)))
+    (held-first h viewPermission view-permission (l .i) (l .inv .0)) (omega arith)
+
+element-set-from-a-2 : tie.Need-element-set-from-a-2 Inv-loop μ-loop
+element-set-from-a-2 c = search needs
+
+add-out-2 : tie.Need-add-out-2 Inv-loop μ-loop
+add-out-2 c = search needs
+
 returns-2 : tie.Need-returns-2 Inv-loop μ-loop
 returns-2 c =
-    let s = c .before .before .before in
+    let s = c .before .before in
     let l = c .before .loop in
-    let e : l .i ≡ s .args .t2 .count = omega arith in
-    let end = row-end viewPermission (s .args .t2 .rows) (s .args .t2 .count) (l .i) (c .loop-test .left) in
-    sym
-    (store permissionsWith permissionOf 128 _ _ (l .i) (l .inv .2) (viewPermission (s .args .a)) [] _ (omega arith) (ap (insert beforePermission (viewPermission (s .args .a))) end) (permission-same (s .args .a) (s .pre .0)) .rest
-    ∙ fill-end permissionsWith _ _ ∙ ap (λ k. permissionsWith (set (l .out .rows) k (s .args .a)) (k + 1)) e)
+    let e : l .i ≡ 0 = omega arith in
+    fallen
+    (fall (l .inv .2) _ 0 0 0 (omega arith) refl (omega arith) (omega arith) (omega arith)
+    (insert-alone beforePermission (viewPermission (s .args .a)) (ap (λ k. take k (viewPermissions (s .args .t))) e)) (permission-same (s .args .a) (s .pre .0))) refl (omega arith)
 
 pub insert-spec : {M : Type 1} → statement M
 insert-spec =
@@ -131,22 +127,19 @@ insert-spec =
     (tie.spec
     Inv-loop
     μ-loop
-    no-permissions-requires
     loop-holds
+    sub-j
     mul-b
     element-copy-out-b
     permission-before-requires
-    mul-a
-    element-set-from-a
-    add-rest
-    rest-requires
-    returns
     mul-b-2
     element-set-from-b
-    add-i
     loop-less
     loop-again
-    mul-a-2
-    element-set-from-a-2
+    mul-a
+    element-set-from-a
     add-out
+    returns
+    element-set-from-a-2
+    add-out-2
     returns-2)

@@ -1,98 +1,146 @@
--- `tables::ask::holds_in` meets its contract: some row of that name at p has an equal grant. Assumes nothing.
-use borrow.Author.Needs.{needs}
-use mathlib.Core.Bool.{true, false, _&&_}
-use mathlib.Core.Path.{_≡_, refl, sym, ap, _∙_}
-use mathlib.Core.List.{_∷_}
-use Prim.Native.Nat.{_+_, _-_, _≤_}
-use lib.Dec.{eqb}
-use lib.ListN.{drop, getD}
-use Rattle.laws.proofs.Fill.{held-room, held-each, held-next, row-end}
-use Rattle.path.specs.Address.{same}
-use Rattle.path.specs.View.{steps}
-use Rattle.model.specs.Moves.{holds, permissionsIn}
-use Rattle.tables.specs.View.{viewGrant, viewPermission, viewPermissions, noPermission, PermissionSound}
-use Rattle.tables.proofs.Rows.{permission-path, permissions-held}
-use Rattle.tables.proofs.Asked.{holds-hit, holds-miss}
+-- `tables::ask::holds_in` meets its contract: the search begins at the object's place and stops at the first permission of the object that is equal. Assumes nothing.
+use Prim.Native.Nat.{_+_, _-_, _/_, _<_, _≤_, ℕ}
 use Rattle.tables.proofs.ask.holds_in.Statement.{statement}
 use Rattle.tables.proofs.ask.holds_in.Tie as tie
+use Rattle.laws.proofs.Fill.{held-each, held-room}
+use Rattle.model.specs.Moves.{holds, samePermission}
+use Rattle.laws.proofs.Search.{place-most, row-side}
+use Rattle.path.specs.View.{steps}
+use Rattle.tables.proofs.Places.{permissions-searched}
+use Rattle.tables.proofs.Rows.{permission-path, permissions-held}
+use Rattle.tables.proofs.Walk.{Left, at-place, hit, miss, other, past-end}
+use Rattle.tables.specs.Places.{permissionPlace}
+use Rattle.tables.specs.View.{noPermission, viewGrant, viewPermissions}
+use borrow.Author.Needs.{needs}
+use borrow.Author.Tests.{ltb-false, ltb-true}
+use lib.Dec.{ltb}
+use mathlib.Core.Bool.{true}
+use mathlib.Core.Path.{_∙_, _≡_, refl, sym}
+use native.Mathlib.Omega.{arith}
 
 abbrev Inv-loop : tie.InvT-loop
-Inv-loop p name g t n i₀ i = (i ≤ n) × (n ≤ 128) × (holds (viewGrant g) (permissionsIn (steps p) name (viewPermissions t)) ≡ holds (viewGrant g) (permissionsIn (steps p) name (drop i (viewPermissions t))))
+Inv-loop p name g t n i₀ hi₀ i hi = (i ≤ permissionPlace (steps p, name) (viewPermissions t)) × (permissionPlace (steps p, name) (viewPermissions t) ≤ hi) × (hi ≤ t .count) × (t .count ≤ 128)
 
 abbrev μ-loop : tie.MeasureT-loop
-μ-loop p name g t n i₀ i = n - i
+μ-loop p name g t n i₀ hi₀ i hi = hi - i
 
-loop-holds : tie.Need-loop-holds Inv-loop μ-loop
-loop-holds c = (search needs, held-room _ _ _ _ _ _ (permissions-held (c .args .t1) (c .pre .0)), refl)
+abbrev Inv-loop2 : tie.InvT-loop2
+Inv-loop2 p name g t n i₀ hi i = (i ≤ n) × (n ≤ 128) × Left (holds (viewGrant g)) (steps p) name t i
 
-mul-a : tie.Need-mul-a Inv-loop μ-loop
-mul-a c = search needs
+abbrev μ-loop2 : tie.MeasureT-loop2
+μ-loop2 p name g t n i₀ hi i = n - i
 
-element-copy-out-a : tie.Need-element-copy-out-a Inv-loop μ-loop
-element-copy-out-a c = search needs
+loop-holds : tie.Need-loop-holds Inv-loop μ-loop Inv-loop2 μ-loop2
+loop-holds c = (search needs, place-most (permissions-searched (c .pre .0)) (steps (c .args .p), c .args .name), search needs, held-room _ _ _ _ _ _ (permissions-held (c .args .t1) (c .pre .0)))
 
-next : (c : tie.In-loop Inv-loop μ-loop) → drop (c .before .loop .i) (viewPermissions (c .before .before .args .t1))
-    ≡ viewPermission (getD (c .before .before .args .t1 .rows) (c .before .loop .i) noPermission) ∷ drop (c .before .loop .i + 1) (viewPermissions (c .before .before .args .t1))
-next c =
-    let s = c .before .before in
-    held-next _ _ _ _ _ _ (permissions-held (s .args .t1) (s .pre .0)) viewPermission (c .before .loop .i) noPermission (c .loop-test .taken)
+sub-mid : tie.Need-sub-mid Inv-loop μ-loop Inv-loop2 μ-loop2
+sub-mid c = search needs
 
-row : (c : tie.In-loop Inv-loop μ-loop) → PermissionSound (getD (c .before .before .args .t1 .rows) (c .before .loop .i) noPermission)
-row c =
-    let s = c .before .before in
-    held-each _ _ _ _ _ _ (permissions-held (s .args .t1) (s .pre .0)) (c .before .loop .i) noPermission (c .loop-test .taken)
+add-mid : tie.Need-add-mid Inv-loop μ-loop Inv-loop2 μ-loop2
+add-mid c = search needs
 
-is-same-requires : tie.Need-is-same-requires Inv-loop μ-loop
-is-same-requires c κs = (permission-path (row (c .before .before)), c .before .before .before .before .pre .1)
+mul-b : tie.Need-mul-b Inv-loop μ-loop Inv-loop2 μ-loop2
+mul-b c = search needs
 
-same-grant-requires : tie.Need-same-grant-requires Inv-loop μ-loop
-same-grant-requires c κs = search needs
+element-copy-out-b : tie.Need-element-copy-out-b Inv-loop μ-loop Inv-loop2 μ-loop2
+element-copy-out-b c = search needs
 
-both : (c : tie.Then1 Inv-loop μ-loop) → (eqb (getD (c .before .before .before .before .before .before .args .t1 .rows) (c .before .before .before .before .before .loop .i) noPermission .name) (c .before .before .before .before .before .before .args .name) && same (steps (getD (c .before .before .before .before .before .before .args .t1 .rows) (c .before .before .before .before .before .loop .i) noPermission .path)) (steps (c .before .before .before .before .before .before .args .p))) ≡ true
-both c = ap (λ b. eqb (getD (c .before .before .before .before .before .before .args .t1 .rows) (c .before .before .before .before .before .loop .i) noPermission .name) (c .before .before .before .before .before .before .args .name) && b) (sym (c .before .is-same .ensures)) ∙ c .if1 .taken
+-- the row looked at, the place looked for; the row is there, and its test says on which side of it the place is
+abbrev mid : tie.In-loop Inv-loop μ-loop Inv-loop2 μ-loop2 → ℕ
+mid c = c .before .loop .i + (c .before .loop .hi - c .before .loop .i) / 2
 
-returns : tie.Need-returns Inv-loop μ-loop
-returns c =
-    let s = c .before .before .before .before .before .before .before .before in
-    let l = c .before .before .before .before .before .before .before .loop in
-    let x = getD (s .args .t1 .rows) (l .i) noPermission in
-    sym (l .inv .2 ∙ rw (next (c .before .before .before .before .before .before)) (holds-hit (steps (s .args .p)) (s .args .name) (viewGrant (s .args .g)) (viewPermission x) (drop (l .i + 1) (viewPermissions (s .args .t1))) (both (c .before .before)) true (sym (c .before .same-grant .ensures) ∙ c .if2 .taken)))
+abbrev goal : tie.In-loop Inv-loop μ-loop Inv-loop2 μ-loop2 → ℕ
+goal c = permissionPlace (steps (c .before .before .args .p), c .before .before .args .name) (viewPermissions (c .before .before .args .t1))
 
-add-i : tie.Need-add-i Inv-loop μ-loop
+inside : (c : tie.In-loop Inv-loop μ-loop Inv-loop2 μ-loop2) → mid c < c .before .before .args .t1 .count
+inside c = omega arith
+
+side : (c : tie.After-object-before Inv-loop μ-loop Inv-loop2 μ-loop2) → ltb (mid (c .before .before)) (goal (c .before .before)) ≡ c .object-before .result
+side c =
+    let s = c .before .before .before .before in
+    row-side (permissions-searched (s .pre .0)) (steps (s .args .p), s .args .name) (mid (c .before .before)) noPermission (inside (c .before .before)) ∙ sym (c .object-before .ensures)
+
+object-before-requires : tie.Need-object-before-requires Inv-loop μ-loop Inv-loop2 μ-loop2
+object-before-requires c κs =
+    let s = c .before .before .before in
+    (permission-path (held-each _ _ _ _ _ _ (permissions-held (s .args .t1) (s .pre .0)) (mid (c .before)) noPermission (inside (c .before))), s .pre .1)
+
+add-i : tie.Need-add-i Inv-loop μ-loop Inv-loop2 μ-loop2
 add-i c = search needs
 
-loop-less : tie.Need-loop-less Inv-loop μ-loop
+loop-less : tie.Need-loop-less Inv-loop μ-loop Inv-loop2 μ-loop2
 loop-less c = search needs
 
-loop-again : tie.Need-loop-again Inv-loop μ-loop
-loop-again c =
-    let s = c .before .before .before .before .before .before .before .before in
-    let l = c .before .before .before .before .before .before .before .loop in
-    let x = getD (s .args .t1 .rows) (l .i) noPermission in (
-      search needs,
-      search needs,
-      l .inv .2 ∙ rw (next (c .before .before .before .before .before .before)) (holds-hit (steps (s .args .p)) (s .args .name) (viewGrant (s .args .g)) (viewPermission x) (drop (l .i + 1) (viewPermissions (s .args .t1))) (both (c .before .before)) false (sym (c .before .same-grant .ensures) ∙ c .if2 .left)),
-    )
+loop-again : tie.Need-loop-again Inv-loop μ-loop Inv-loop2 μ-loop2
+loop-again c = let i = c .before .before .before in let f = ltb-true (mid i) (goal i) (side (c .before) ∙ c .if1 .taken) in omega arith
 
-add-i-2 : tie.Need-add-i-2 Inv-loop μ-loop
-add-i-2 c = search needs
-
-loop-less-2 : tie.Need-loop-less-2 Inv-loop μ-loop
+loop-less-2 : tie.Need-loop-less-2 Inv-loop μ-loop Inv-loop2 μ-loop2
 loop-less-2 c = search needs
 
-loop-again-2 : tie.Need-loop-again-2 Inv-loop μ-loop
-loop-again-2 c =
-    let s = c .before .before .before .before .before .before in
-    let l = c .before .before .before .before .before .loop in
-    let x = getD (s .args .t1 .rows) (l .i) noPermission in
-    let not-both = ap (λ b. eqb (x .name) (s .args .name) && b) (sym (c .before .is-same .ensures)) ∙ c .if1 .left in
-    (search needs, search needs, l .inv .2 ∙ rw (next (c .before .before .before .before)) (holds-miss (steps (s .args .p)) (s .args .name) (viewGrant (s .args .g)) (viewPermission x) (drop (l .i + 1) (viewPermissions (s .args .t1))) not-both))
+loop-again-2 : tie.Need-loop-again-2 Inv-loop μ-loop Inv-loop2 μ-loop2
+loop-again-2 c = let i = c .before .before .before in let f = ltb-false (mid i) (goal i) (side (c .before) ∙ c .if1 .left) in omega arith
 
-returns-2 : tie.Need-returns-2 Inv-loop μ-loop
-returns-2 c =
-    let s = c .before .before in
+loop2-holds : tie.Need-loop2-holds Inv-loop μ-loop Inv-loop2 μ-loop2
+loop2-holds c =
     let l = c .before .loop in
-    sym (l .inv .2 ∙ rw (row-end viewPermission (s .args .t1 .rows) (s .args .t1 .count) (l .i) (c .loop-test .left)))
+    let s = c .before .before in
+    let e : l .i ≡ permissionPlace (steps (s .args .p), s .args .name) (viewPermissions (s .args .t1)) = omega arith in
+    (omega arith, l .inv .3, at-place (holds (viewGrant (s .args .g))) _ _ _ (l .i) (s .pre .0) e)
+
+mul-a : tie.Need-mul-a Inv-loop μ-loop Inv-loop2 μ-loop2
+mul-a c = search needs
+
+element-copy-out-a : tie.Need-element-copy-out-a Inv-loop μ-loop Inv-loop2 μ-loop2
+element-copy-out-a c = search needs
+
+is-same-requires : tie.Need-is-same-requires Inv-loop μ-loop Inv-loop2 μ-loop2
+is-same-requires c κs =
+    let s = c .before .before .before .before .before .before in
+    let row = held-each _ _ _ _ _ _ (permissions-held (s .args .t1) (s .pre .0)) (c .before .before .before .loop2 .i) noPermission (c .before .before .loop2-test .taken) in
+    (permission-path row, s .pre .1)
+
+same-grant-requires : tie.Need-same-grant-requires Inv-loop μ-loop Inv-loop2 μ-loop2
+same-grant-requires c κs = search needs
+
+returns : tie.Need-returns Inv-loop μ-loop Inv-loop2 μ-loop2
+returns c =
+    let r = c .before .before .before in
+    let s = r .before .before .before .before .before .before .before in
+    let l = r .before .before .before .before .loop2 in
+    let g = viewGrant (s .args .g) in
+    hit (holds g) _ _ _ (l .i) (l .inv .2) (s .pre .0) (r .before .before .before .loop2-test .taken) (r .is-same .ensures)
+    (samePermission g) (λ x. true) (λ x m. refl) (c .before .before .if2 .taken) (c .before .same-grant .ensures) (c .if3 .taken)
+
+add-i-2 : tie.Need-add-i-2 Inv-loop μ-loop Inv-loop2 μ-loop2
+add-i-2 c = search needs
+
+loop2-less : tie.Need-loop2-less Inv-loop μ-loop Inv-loop2 μ-loop2
+loop2-less c = search needs
+
+loop2-again : tie.Need-loop2-again Inv-loop μ-loop Inv-loop2 μ-loop2
+loop2-again c =
+    let r = c .before .before .before in
+    let s = r .before .before .before .before .before .before .before in
+    let l = r .before .before .before .before .loop2 in
+    let g = viewGrant (s .args .g) in (
+      search needs,
+      search needs,
+      miss (holds g) _ _ _ (l .i) (l .inv .2) (s .pre .0) (r .before .before .before .loop2-test .taken) (r .is-same .ensures)
+          (samePermission g) (λ x. true) (λ x m. refl) (c .before .before .if2 .taken) (c .before .same-grant .ensures) (c .if3 .left),
+    )
+
+returns-2 : tie.Need-returns-2 Inv-loop μ-loop Inv-loop2 μ-loop2
+returns-2 c =
+    let r = c .before in
+    let s = r .before .before .before .before .before .before .before in
+    let l = r .before .before .before .before .loop2 in
+    other (holds (viewGrant (s .args .g))) _ _ _ (l .i) (l .inv .2) (s .pre .0) (r .before .before .before .loop2-test .taken) (r .is-same .ensures) (c .if2 .left)
+
+returns-3 : tie.Need-returns-3 Inv-loop μ-loop Inv-loop2 μ-loop2
+returns-3 c =
+    let s = c .before .before .before .before in
+    let l = c .before .loop2 in
+    past-end (holds (viewGrant (s .args .g))) _ _ _ (l .i) (l .inv .2) (c .loop2-test .left)
 
 pub holds-in-spec : {M : Type 1} → statement M
 holds-in-spec =
@@ -100,16 +148,27 @@ holds-in-spec =
     (tie.spec
     Inv-loop
     μ-loop
+    Inv-loop2
+    μ-loop2
     loop-holds
+    sub-mid
+    add-mid
+    mul-b
+    element-copy-out-b
+    object-before-requires
+    add-i
+    loop-less
+    loop-again
+    loop-less-2
+    loop-again-2
+    loop2-holds
     mul-a
     element-copy-out-a
     is-same-requires
     same-grant-requires
     returns
-    add-i
-    loop-less
-    loop-again
     add-i-2
-    loop-less-2
-    loop-again-2
-    returns-2)
+    loop2-less
+    loop2-again
+    returns-2
+    returns-3)

@@ -1,88 +1,65 @@
--- `tables::ask::owner_in` meets its contract: the first row at p. Assumes nothing.
+-- `tables::ask::owner_in` meets its contract: the row at the place of p is p's, or none is. Assumes nothing.
 use borrow.Author.Needs.{needs}
-use mathlib.Core.Bool.{true, false}
-use mathlib.Core.Path.{_≡_, refl, sym, _∙_}
-use mathlib.Core.List.{_∷_}
-use Prim.Native.Nat.{_+_, _-_, _≤_}
-use lib.ListN.{drop, getD}
+use mathlib.Core.Bool.{true}
+use mathlib.Core.Path.{_≡_, sym, _∙_}
+use mathlib.Core.List.{List}
+use Prim.Native.Nat.{ℕ, _≤_}
+use native.Mathlib.Omega.{arith}
+use lib.ListN.{getD}
 use Rattle.laws.proofs.Fill.{held-room, held-each, held-next, row-end}
+use Rattle.laws.proofs.Search.{rows-from, rows-other}
 use Rattle.path.specs.Address.{same}
 use Rattle.path.specs.View.{steps}
-use Rattle.model.specs.Moves.{ownerIn}
-use Rattle.tables.specs.View.{viewNode, viewNodes, noNode, NodeSound, ownerOf}
+use Rattle.model.specs.Moves.{head}
+use Rattle.tables.specs.declared.ask.Owner.{Owner}
+use Rattle.tables.specs.View.{viewNode, noNode, ownerOf}
 use Rattle.tables.proofs.Rows.{node-path, nodes-held}
+use Rattle.tables.proofs.Places.{nodes-searched, at-path}
 use Rattle.tables.proofs.ask.owner_in.Statement.{statement}
 use Rattle.tables.proofs.ask.owner_in.Tie as tie
 
-abbrev Inv-loop : tie.InvT-loop
-Inv-loop p t n i₀ i = (i ≤ n) × (n ≤ 64) × (ownerOf (ownerIn (steps p) (viewNodes t)) ≡ ownerOf (ownerIn (steps p) (drop i (viewNodes t))))
+abbrev asked : List ℕ → Owner
+asked l = ownerOf (head l)
 
-abbrev μ-loop : tie.MeasureT-loop
-μ-loop p t n i₀ i = n - i
+room : (c : tie.Start) → c .args .t1 .count ≤ 64
+room c = held-room _ _ _ _ _ _ (nodes-held (c .args .t1) (c .pre .0))
 
-loop-holds : tie.Need-loop-holds Inv-loop μ-loop
-loop-holds c = (search needs, held-room _ _ _ _ _ _ (nodes-held (c .args .t1) (c .pre .0)), refl)
+first-at-requires : tie.Need-first-at-requires
+first-at-requires c κs = search needs
 
-mul-node : tie.Need-mul-node Inv-loop μ-loop
-mul-node c = search needs
-
-element-copy-out-node : tie.Need-element-copy-out-node Inv-loop μ-loop
-element-copy-out-node c = search needs
-
-next : (c : tie.In-loop Inv-loop μ-loop) → drop (c .before .loop .i) (viewNodes (c .before .before .args .t1))
-    ≡ viewNode (getD (c .before .before .args .t1 .rows) (c .before .loop .i) noNode) ∷ drop (c .before .loop .i + 1) (viewNodes (c .before .before .args .t1))
-next c =
-    let s = c .before .before in
-    held-next _ _ _ _ _ _ (nodes-held (s .args .t1) (s .pre .0)) viewNode (c .before .loop .i) noNode (c .loop-test .taken)
-
-row : (c : tie.In-loop Inv-loop μ-loop) → NodeSound (getD (c .before .before .args .t1 .rows) (c .before .loop .i) noNode)
-row c =
-    let s = c .before .before in
-    held-each _ _ _ _ _ _ (nodes-held (s .args .t1) (s .pre .0)) (c .before .loop .i) noNode (c .loop-test .taken)
-
-is-same-requires : tie.Need-is-same-requires Inv-loop μ-loop
-is-same-requires c κs = (node-path (row (c .before)), c .before .before .before .pre .1)
-
-returns : tie.Need-returns Inv-loop μ-loop
+returns : tie.Need-returns
 returns c =
-    let s = c .before .before .before .before .before in
-    let l = c .before .before .before .before .loop in
-    let x = getD (s .args .t1 .rows) (l .i) noNode in
-    let hit : same (steps (x .path)) (steps (s .args .p)) ≡ true = sym (c .before .is-same .ensures) ∙ c .if1 .taken in
-    sym (l .inv .2 ∙ rw (next (c .before .before .before), hit))
-
-add-i : tie.Need-add-i Inv-loop μ-loop
-add-i c = search needs
-
-loop-less : tie.Need-loop-less Inv-loop μ-loop
-loop-less c = search needs
-
-loop-again : tie.Need-loop-again Inv-loop μ-loop
-loop-again c =
-    let s = c .before .before .before .before .before in
-    let l = c .before .before .before .before .loop in
-    let x = getD (s .args .t1 .rows) (l .i) noNode in
-    let miss : same (steps (x .path)) (steps (s .args .p)) ≡ false = sym (c .before .is-same .ensures) ∙ c .if1 .left in
-    (search needs, search needs, l .inv .2 ∙ rw (next (c .before .before .before), miss))
-
-returns-2 : tie.Need-returns-2 Inv-loop μ-loop
-returns-2 c =
     let s = c .before .before in
-    let l = c .before .loop in
-    sym (l .inv .2 ∙ rw (row-end viewNode (s .args .t1 .rows) (s .args .t1 .count) (l .i) (c .loop-test .left)))
+    let f = c .before .first-at in
+    sym (rows-from (nodes-searched (s .pre .0)) (steps (s .args .p)) (at-path (steps (s .args .p)) asked) (f .ensures) ∙ rw (row-end viewNode (s .args .t1 .rows) (s .args .t1 .count) (f .result) (c .if1 .taken)))
+
+mul-node : tie.Need-mul-node
+mul-node c = let r = room (c .before .before) in search needs
+
+element-copy-out-node : tie.Need-element-copy-out-node
+element-copy-out-node c = let r = room (c .before .before) in search needs
+
+is-same-requires : tie.Need-is-same-requires
+is-same-requires c κs =
+    let s = c .before .before .before in
+    (node-path (held-each _ _ _ _ _ _ (nodes-held (s .args .t1) (s .pre .0)) (c .before .before .first-at .result) noNode (c .before .if1 .left)), s .pre .1)
+
+returns-2 : tie.Need-returns-2
+returns-2 c =
+    let s = c .before .before .before .before .before in
+    let f = c .before .before .before .before .first-at in
+    let x = getD (s .args .t1 .rows) (f .result) noNode in
+    let hit : same (steps (x .path)) (steps (s .args .p)) ≡ true = sym (c .before .is-same .ensures) ∙ c .if2 .taken in
+    sym (rows-from (nodes-searched (s .pre .0)) (steps (s .args .p)) (at-path (steps (s .args .p)) asked) (f .ensures)
+    ∙ rw (held-next _ _ _ _ _ _ (nodes-held (s .args .t1) (s .pre .0)) viewNode (f .result) noNode (c .before .before .before .if1 .left), hit))
+
+returns-3 : tie.Need-returns-3
+returns-3 c =
+    let s = c .before .before .before .before .before in
+    let f = c .before .before .before .before .first-at in
+    sym (rows-from (nodes-searched (s .pre .0)) (steps (s .args .p)) (at-path (steps (s .args .p)) asked) (f .ensures)
+    ∙ rows-other (nodes-searched (s .pre .0)) (steps (s .args .p)) (at-path (steps (s .args .p)) asked) (f .result) noNode (let e = f .ensures in omega arith) (c .before .before .before .if1 .left)
+    (sym (c .before .is-same .ensures) ∙ c .if2 .left))
 
 pub owner-in-spec : {M : Type 1} → statement M
-owner-in-spec =
-    tie.close
-    (tie.spec
-    Inv-loop
-    μ-loop
-    loop-holds
-    mul-node
-    element-copy-out-node
-    is-same-requires
-    returns
-    add-i
-    loop-less
-    loop-again
-    returns-2)
+owner-in-spec = tie.close (tie.spec first-at-requires returns mul-node element-copy-out-node is-same-requires returns-2 returns-3)
