@@ -1,0 +1,12 @@
+pub mod Less
+pub mod Steps
+pub mod Ascends
+pub mod Newest
+pub mod Stands
+pub mod Behind
+pub mod Tests
+pub mod Stored
+pub mod Lookups
+pub mod Phases
+pub mod Whole
+pub mod Corollaries
