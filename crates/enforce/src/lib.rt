@@ -1,0 +1,145 @@
+// The enforcing part: a request is judged, its provisions are enforced, and it is carried out; the calls without a guard beside it. By value: what a
+// call leaves goes out as a new value, so a refusal gives back what came in.
+ghost use mathlib.Core.Path.{_≡_};
+ghost use Rattle.path.specs.View.{PathSound};
+ghost use Rattle.model.specs.Run as run;
+ghost use Rattle.state.specs.View.{SessionSound, viewRequest, plainOf};
+ghost use Rattle.state.specs.Calls.{steppedOf};
+ghost use Rattle.state.specs.declared.Outcome.the-variants.{Done};
+ghost use Rattle.judge.specs.View.{viewPlaced};
+ghost use Rattle.enforce.specs.Deeds.{Served, carriedOf, numberedIn, replacedIn, clippedIn};
+use crate::requests::add_attribute;
+use crate::requests::copy_attribute;
+use crate::requests::copy_branch;
+use crate::requests::read_attribute;
+use crate::requests::read_node;
+use edits::add_node;
+use edits::add_permission;
+use edits::change_value;
+use edits::delete_attribute;
+use edits::delete_branch;
+use edits::delete_permission;
+use edits::paste_attribute;
+use edits::paste_branch;
+use judge::Judged;
+use judge::Placed;
+use judge::cached;
+use judge::place::placed;
+use judge::table::judged;
+use state::Answer;
+use state::Outcome;
+use state::Request;
+use state::Session;
+use state::Stepped;
+use state::entries::logged;
+use state::plain;
+use tables::Clipboard;
+use tables::Dossier;
+
+pub mod calls;
+pub mod requests;
+
+// The dossier of that number.
+fn dossier_of(s: Session, n: u8) -> Dossier
+    ensures { λ d. ⌜ d ≡ numberedIn n s ⌝ }
+{
+    if n == 1 {
+        return s.one;
+    }
+    s.two
+}
+
+// ---- what a request leaves
+
+// The session as it is.
+fn answered(s: Session, a: Answer) -> Stepped
+    ensures { λ o. ⌜ o ≡ record { session = s; answer = a } ⌝ }
+{
+    Stepped {
+        session: s,
+        answer: a,
+    }
+}
+
+// Another dossier under that number.
+fn edited(s: Session, n: u8, d: Dossier) -> Stepped
+    ensures { λ o. ⌜ o ≡ record { session = replacedIn n d s; answer = plainOf Done } ⌝ }
+{
+    let mut t = s;
+    if n == 1 {
+        t.one = d;
+        return answered(t, plain(Outcome::Done));
+    }
+    t.two = d;
+    answered(t, plain(Outcome::Done))
+}
+
+// Another clipboard.
+fn clipped(s: Session, c: Clipboard) -> Stepped
+    ensures { λ o. ⌜ o ≡ record { session = clippedIn c s; answer = plainOf Done } ⌝ }
+{
+    let mut t = s;
+    t.clipboard = c;
+    answered(t, plain(Outcome::Done))
+}
+
+// Both: a cut is a copy, then a delete.
+fn cut(s: Session, copied: Clipboard, n: u8, d: Dossier) -> Stepped
+    ensures { λ o. ⌜ o ≡ record { session = replacedIn n d (clippedIn copied s); answer = plainOf Done } ⌝ }
+{
+    let mut t = s;
+    t.clipboard = copied;
+    edited(t, n, d)
+}
+
+// The request carried out, its messages logged before: the match over request numbers 1 to 16, everything else refused 1.
+pub fn carried_out(s: Session, q: Placed, messages: u32) -> Stepped
+    requires { ⌜ SessionSound s × PathSound (q .path) × Served s (viewPlaced q) messages ⌝ }
+    ensures { λ o. ⌜ o ≡ carriedOf s (viewPlaced q) ⌝ }
+{
+    let log = logged(s.log, q.user, messages);
+    let mut t = s;
+    t.log = log;
+    let n = q.dossier;
+    let d = dossier_of(t, n);
+    let v = q.value;
+    let number = q.number;
+    match number {
+        1 => answered(t, read_node(d, q)),
+        2 => answered(t, read_attribute(d, q)),
+        3 => edited(t, n, add_node(d, q.path, q.user)),
+        4 => edited(t, n, delete_branch(d, q.path)),
+        5 => clipped(t, copy_branch(d, q)),
+        6 => cut(t, copy_branch(d, q), n, delete_branch(d, q.path)),
+        7 => edited(t, n, paste_branch(t.clipboard.held, d, q.path)),
+        8 => edited(t, n, add_attribute(d, q)),
+        9 => edited(t, n, delete_attribute(d, q.path, q.name)),
+        10 => edited(t, n, change_value(d, q.path, q.name, v)),
+        11 => clipped(t, copy_attribute(d, q)),
+        12 => cut(
+            t,
+            copy_attribute(d, q),
+            n,
+            delete_attribute(d, q.path, q.name),
+        ),
+        13 => edited(t, n, paste_attribute(t.clipboard, d, q.path, q.name)),
+        14 => edited(t, n, add_permission(d, q.path, q.name, q.permission)),
+        15 => edited(t, n, delete_permission(d, q.path, q.name, q.permission)),
+        16 => edited(t, n, add_permission(d, q.path, q.name, q.permission)),
+        _ => answered(s, plain(Outcome::Refused(1))),
+    }
+}
+
+// A guarded request on a session: refused, the session as it came and the number alone; or carried out.
+pub fn requested(s: Session, r: Request) -> Stepped
+    requires { ⌜ SessionSound s ⌝ }
+    ensures { λ o. ⌜ o ≡ steppedOf s (run.request (viewRequest r)) ⌝ }
+{
+    let d = dossier_of(s, r.dossier);
+    let c = cached(s.clipboard);
+    let rows = s.signatures;
+    match judged(d, c, rows, s.log.count, r) {
+        Judged::Refused(n) => answered(s, plain(Outcome::Refused(n))),
+        Judged::Allowed(messages) => carried_out(s, placed(r), messages),
+    }
+}

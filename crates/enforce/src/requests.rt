@@ -1,0 +1,93 @@
+// What a request does to the dossier that it names or takes from it, where more than one function of the crates below is needed.
+ghost use mathlib.Core.Path.{_≡_};
+ghost use mathlib.Core.Option.{none};
+ghost use Prim.Native.Nat.{_≤_};
+ghost use lib.Dec.{T};
+ghost use lib.ListN.{length};
+ghost use Rattle.path.specs.View.{steps, PathSound};
+ghost use Rattle.model.specs.Things as things;
+ghost use Rattle.model.specs.Moves as model;
+ghost use Rattle.model.specs.Image as images;
+ghost use Rattle.model.specs.Run as run;
+ghost use Rattle.tables.specs.View.{DossierSound, clipboardOf, dossierOf, viewDossier, viewValue};
+ghost use Rattle.edits.specs.Room.{AttributeRoom};
+ghost use Rattle.state.specs.View.{answerOf};
+use edits;
+use judge::Placed;
+use state::Answer;
+use state::Outcome;
+use state::plain;
+use tables::Attribute;
+use tables::Clipboard;
+use tables::Dossier;
+use tables::ask::Found;
+use tables::ask::attribute_in;
+use tables::ask::children_in;
+use tables::ask::names_in;
+
+// 1: the names on the node, ascending, and its child count.
+pub fn read_node(d: Dossier, q: Placed) -> Answer
+    requires { ⌜ DossierSound d × PathSound (q .path) ⌝ }
+    ensures { λ r. ⌜ r ≡ answerOf (run.contents (model.namesOn (steps (q .path)) (viewDossier d)) (model.childCount (steps (q .path)) (viewDossier d))) ⌝ }
+{
+    let names = names_in(d.attributes, q.path);
+    Answer {
+        outcome: Outcome::Contents(children_in(d.nodes, q.path)),
+        names: names,
+    }
+}
+
+// 2: the attribute's value.
+pub fn read_attribute(d: Dossier, q: Placed) -> Answer
+    requires { ⌜ DossierSound d × PathSound (q .path) ⌝ }
+    ensures { λ r. ⌜ r ≡ answerOf (run.valueOf (model.attributeAt (steps (q .path)) (q .name) (viewDossier d))) ⌝ }
+{
+    match attribute_in(d.attributes, q.path, q.name) {
+        Found::Absent => plain(Outcome::Done),
+        Found::Present(_, v) => plain(Outcome::ValueRead(v)),
+    }
+}
+
+// 5, and the first half of 6: the branch with its owners and permissions.
+pub fn copy_branch(d: Dossier, q: Placed) -> Clipboard
+    requires { ⌜ DossierSound d × PathSound (q .path) × T (images.there (model.nodeAt (steps (q .path)) (viewDossier d))) ⌝ }
+    ensures { λ r. ⌜ r ≡ clipboardOf (things.branch (model.copyBranch (steps (q .path)) (viewDossier d))) ⌝ }
+{
+    edits::branch_clipboard(edits::copy_branch(d, q.path))
+}
+
+// 8: an attribute that belongs to the adding user.
+pub fn add_attribute(d: Dossier, q: Placed) -> Dossier
+    requires { ⌜ DossierSound d × PathSound (q .path) × AttributeRoom (viewDossier d) × (model.attributeAt (steps (q .path)) (q .name) (viewDossier d) ≡ none) ⌝ }
+    ensures { λ r. ⌜ r ≡ dossierOf (model.withAttribute (steps (q .path)) (record { name = q .name; owner = q .user; value = viewValue (q .value) }) (viewDossier d)) ⌝ }
+{
+    let p = q.path;
+    let v = q.value;
+    let a = Attribute {
+        path: p,
+        name: q.name,
+        owner: q.user,
+        value: v,
+    };
+    edits::with_attribute(d, a)
+}
+
+// 11, and the first half of 12: the attribute with its owner and permissions, under its own name.
+pub fn copy_attribute(d: Dossier, q: Placed) -> Clipboard
+    requires { ⌜ DossierSound d × PathSound (q .path) ⌝ }
+    ensures { λ r. ⌜ r ≡ clipboardOf (model.copied (steps (q .path)) (q .name) (viewDossier d) things.empty (model.attributeAt (steps (q .path)) (q .name) (viewDossier d))) ⌝ }
+{
+    match attribute_in(d.attributes, q.path, q.name) {
+        Found::Absent => edits::empty_clipboard(),
+        Found::Present(owner, v) => {
+            let p = q.path;
+            let a = Attribute {
+                path: p,
+                name: q.name,
+                owner: owner,
+                value: v,
+            };
+            edits::copy_attribute(d, a)
+        }
+    }
+}

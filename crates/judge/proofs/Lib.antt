@@ -1,0 +1,5 @@
+pub mod Several
+pub mod Objects
+pub mod Totals
+pub mod Order
+pub mod Clipboards

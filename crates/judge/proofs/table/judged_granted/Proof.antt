@@ -1,0 +1,135 @@
+-- `judge::table::judged_granted` meets its contract: the tests 7 to 11 in their order. Assumes nothing.
+use mathlib.Core.Path.{_≡_, sym, ap, _∙_}
+use mathlib.Core.Bool.{not}
+use Prim.Native.Nat.{_+_}
+use borrow.Author.Needs.{needs}
+use lib.Dec.{ltb}
+use lib.ListN.{length}
+use Rattle.model.specs.Decide.{subset, members}
+use Rattle.model.specs.Refusals as refusals
+use Rattle.decide.specs.View.{viewDecision}
+use Rattle.judge.specs.declared.Judged.the-variants.{Allowed}
+use Rattle.judge.specs.View.{viewPlaced, viewCache}
+use Rattle.judge.specs.Parts.{foundFor}
+use Rattle.judge.proofs.Order.{decision-seen, refused-7, refused-8, refused-9, refused-10, refused-11, allowed}
+use Rattle.judge.proofs.table.judged_granted.Statement.{statement}
+use Rattle.judge.proofs.table.judged_granted.Tie as tie
+
+messages-of-requires : tie.Need-messages-of-requires
+messages-of-requires c κs = search needs
+
+uncovered-requires : tie.Need-uncovered-requires
+uncovered-requires c κs = let p = c .before .pre in (p .0, p .3)
+
+clashing-requires : tie.Need-clashing-requires
+clashing-requires c κs = let p = c .before .before .pre in (p .0, p .3)
+
+over-bound-requires : tie.Need-over-bound-requires
+over-bound-requires c κs = let p = c .before .before .before .pre in (p .0, p .1, p .3)
+
+agreements-of-requires : tie.Need-agreements-of-requires
+agreements-of-requires c κs = search needs
+
+unsigned-requires : tie.Need-unsigned-requires
+unsigned-requires c κs = search needs
+
+log-full-requires : tie.Need-log-full-requires
+log-full-requires c κs = c .before .before .before .before .before .before .pre .2
+
+-- each test, as it was answered
+module _ (a : tie.After-log-full) where
+  abbrev start : tie.Start
+  start = a .before .before .before .before .before .before .before
+
+  abbrev request : refusals.Request
+  request = viewPlaced (start .args .q)
+
+  abbrev finds : refusals.Found
+  finds = foundFor (start .args .d) (start .args .q)
+
+  abbrev cache : refusals.Cached
+  cache = viewCache (start .args .c)
+
+  abbrev standing : refusals.Standing
+  standing = record { signed = start .args .signed; entries = start .args .entries }
+
+  -- what was granted
+  seen : viewDecision (start .args .may) ≡ refusals.granted request finds
+  seen = ap viewDecision (start .pre .6) ∙ decision-seen (refusals.granted request finds)
+
+  messages : a .before .before .before .before .before .before .messages-of .result ≡ refusals.provisions (refusals.granted request finds) .messages
+  messages = a .before .before .before .before .before .before .messages-of .ensures ∙ ap (λ o. refusals.provisions o .messages) seen
+
+  agreements : a .before .before .agreements-of .result ≡ refusals.provisions (refusals.granted request finds) .agreements
+  agreements = a .before .before .agreements-of .ensures ∙ ap (λ o. refusals.provisions o .agreements) seen
+
+  bare : refusals.uncovered request finds ≡ a .before .before .before .before .before .uncovered .result
+  bare = sym (a .before .before .before .before .before .uncovered .ensures)
+
+  clash : refusals.clashing request finds ≡ a .before .before .before .before .clashing .result
+  clash = sym (a .before .before .before .before .clashing .ensures)
+
+  full : refusals.overBound (refusals.totals request finds cache) ≡ a .before .before .before .over-bound .result
+  full = sym (a .before .before .before .over-bound .ensures)
+
+  unread : refusals.unsigned (refusals.provisions (refusals.granted request finds)) standing ≡ a .before .unsigned .result
+  unread = sym (a .before .unsigned .ensures ∙ ap (λ n. not (subset n (start .args .signed))) agreements)
+
+  late : refusals.logFull (refusals.provisions (refusals.granted request finds)) standing ≡ a .log-full .result
+  late = sym (a .log-full .ensures ∙ ap (λ n. ltb 256 (start .args .entries + length (members n))) messages)
+
+returns : tie.Need-returns
+returns c =
+    let a = c .before in
+    let p = start a .pre in
+    refused-7 (request a) (finds a) (cache a) (standing a) (p .4) (p .5) (bare a ∙ c .if1 .taken)
+
+returns-2 : tie.Need-returns-2
+returns-2 c =
+    let i1 = c .before in
+    let a = i1 .before in
+    let p = start a .pre in
+    refused-8 (request a) (finds a) (cache a) (standing a) (p .4) (p .5) (bare a ∙ i1 .if1 .left) (clash a ∙ c .if2 .taken)
+
+returns-3 : tie.Need-returns-3
+returns-3 c =
+    let i2 = c .before in
+    let i1 = i2 .before in
+    let a = i1 .before in
+    let p = start a .pre in
+    refused-9 (request a) (finds a) (cache a) (standing a) (p .4) (p .5) (bare a ∙ i1 .if1 .left) (clash a ∙ i2 .if2 .left) (full a ∙ c .if3 .taken)
+
+returns-4 : tie.Need-returns-4
+returns-4 c =
+    let i3 = c .before in
+    let i2 = i3 .before in
+    let i1 = i2 .before in
+    let a = i1 .before in
+    let p = start a .pre in
+    refused-10 (request a) (finds a) (cache a) (standing a) (p .4) (p .5) (bare a ∙ i1 .if1 .left) (clash a ∙ i2 .if2 .left) (full a ∙ i3 .if3 .left) (unread a ∙ c .if4 .taken)
+
+returns-5 : tie.Need-returns-5
+returns-5 c =
+    let i4 = c .before in
+    let i3 = i4 .before in
+    let i2 = i3 .before in
+    let i1 = i2 .before in
+    let a = i1 .before in
+    let p = start a .pre in
+    refused-11 (request a) (finds a) (cache a) (standing a) (p .4) (p .5) (bare a ∙ i1 .if1 .left) (clash a ∙ i2 .if2 .left) (full a ∙ i3 .if3 .left) (unread a ∙ i4 .if4 .left) (late a ∙ c .if5 .taken)
+
+returns-6 : tie.Need-returns-6
+returns-6 c =
+    let i4 = c .before in
+    let i3 = i4 .before in
+    let i2 = i3 .before in
+    let i1 = i2 .before in
+    let a = i1 .before in
+    let p = start a .pre in
+    ap Allowed (messages a)
+    ∙ allowed (request a) (finds a) (cache a) (standing a) (p .4) (p .5) (bare a ∙ i1 .if1 .left) (clash a ∙ i2 .if2 .left) (full a ∙ i3 .if3 .left) (unread a ∙ i4 .if4 .left) (late a ∙ c .if5 .left)
+
+pub judged-granted-spec : {M : Type 1} → statement M
+judged-granted-spec =
+    tie.close
+    (tie.spec messages-of-requires uncovered-requires clashing-requires over-bound-requires agreements-of-requires unsigned-requires log-full-requires returns returns-2 returns-3 returns-4 returns-5 returns-6)
