@@ -1,0 +1,149 @@
+/* Requests 1 and 3 to 7: nodes and branches. */
+#include "call.h"
+
+static void delete_branch(struct dossier *d, key q)
+{
+    nodes_delete_branch(&d->nodes, q);
+    attributes_delete_branch(&d->attributes, q);
+    permissions_delete_branch(&d->permissions, q);
+}
+
+static void copy_branch(struct clipboard *to, const struct dossier *d, key q)
+{
+    to->kind = CLIPBOARD_BRANCH;
+    nodes_copy_branch(&to->held.nodes, &d->nodes, q);
+    attributes_copy_branch(&to->held.attributes, &d->attributes, q);
+    permissions_copy_branch(&to->held.permissions, &d->permissions, q);
+}
+
+enum refusal plain_read_node(struct session *s, const struct request *r, struct answer *a)
+{
+    struct call c;
+    if (!begin(s, r, &c))
+        return BAD_OPERAND;
+    if (!has_node(&c))
+        return ABSENT;
+    if (!may_read(c.dossier, &c.who, c.node, &c.due))
+        return NOT_GRANTED;
+    enum refusal refused = meet(s, &c);
+    if (refused != GRANTED)
+        return refused;
+    size_t first, count = attributes_on(c.dossier, c.node, &first);
+    a->children = (uint8_t)child_count(c.dossier, c.node);
+    a->name_count = (uint8_t)count;
+    for (size_t i = 0; i < count; i++)
+        a->names[i] = name_of(c.dossier->attributes.at[first + i]);
+    return GRANTED;
+}
+
+enum refusal plain_add_node(struct session *s, const struct request *r)
+{
+    struct call c;
+    if (!begin(s, r, &c))
+        return BAD_OPERAND;
+    if (r->path.len == 0)
+        return EMPTY_PATH;
+    if (!has_place(&c))
+        return ABSENT;
+    if (!may_change_parent(&c))
+        return NOT_GRANTED;
+    struct dossier *d = c.dossier;
+    if (d->nodes.count == MAX_NODES || child_count(d, parent_of(c.node)) == MAX_STEP)
+        return NO_ROOM;
+    enum refusal refused = meet(s, &c);
+    if (refused != GRANTED)
+        return refused;
+    nodes_shift_up(&d->nodes, c.node);
+    attributes_shift_up(&d->attributes, c.node);
+    permissions_shift_up(&d->permissions, c.node);
+    size_t i = first_at(d->nodes.at, d->nodes.count, c.node);
+    nodes_open(&d->nodes, i, 1);
+    nodes_put(&d->nodes, i, c.node, r->user);
+    return GRANTED;
+}
+
+enum refusal plain_delete_branch(struct session *s, const struct request *r)
+{
+    struct call c;
+    if (!begin(s, r, &c))
+        return BAD_OPERAND;
+    if (r->path.len == 0)
+        return EMPTY_PATH;
+    if (!has_node(&c))
+        return ABSENT;
+    if (!may_change_parent(&c))
+        return NOT_GRANTED;
+    enum refusal refused = meet(s, &c);
+    if (refused == GRANTED)
+        delete_branch(c.dossier, c.node);
+    return refused;
+}
+
+enum refusal plain_copy_branch(struct session *s, const struct request *r)
+{
+    struct call c;
+    if (!begin(s, r, &c))
+        return BAD_OPERAND;
+    if (!has_node(&c))
+        return ABSENT;
+    if (!may_read(c.dossier, &c.who, c.node, &c.due))
+        return NOT_GRANTED;
+    enum refusal refused = meet(s, &c);
+    if (refused == GRANTED)
+        copy_branch(&s->clipboard, c.dossier, c.node);
+    return refused;
+}
+
+enum refusal plain_cut_branch(struct session *s, const struct request *r)
+{
+    struct call c;
+    if (!begin(s, r, &c))
+        return BAD_OPERAND;
+    if (r->path.len == 0)
+        return EMPTY_PATH;
+    if (!has_node(&c))
+        return ABSENT;
+    if (!may_read(c.dossier, &c.who, c.node, &c.due) || !may_change_parent(&c))
+        return NOT_GRANTED;
+    enum refusal refused = meet(s, &c);
+    if (refused != GRANTED)
+        return refused;
+    copy_branch(&s->clipboard, c.dossier, c.node);
+    delete_branch(c.dossier, c.node);
+    return GRANTED;
+}
+
+/* Nodes stand level by level, so the last is as deep as any. */
+static bool has_room_for_branch(const struct dossier *d, const struct dossier *held, key q)
+{
+    unsigned height = key_len(held->nodes.at[held->nodes.count - 1]);
+    return d->nodes.count + held->nodes.count <= MAX_NODES && key_len(q) + height <= MAX_DEPTH &&
+           child_count(d, parent_of(q)) < MAX_STEP &&
+           d->attributes.count + held->attributes.count <= MAX_ATTRIBUTES &&
+           d->permissions.count + held->permissions.count <= MAX_PERMISSIONS;
+}
+
+enum refusal plain_paste_branch(struct session *s, const struct request *r)
+{
+    struct call c;
+    const struct dossier *held = &s->clipboard.held;
+    if (!begin(s, r, &c))
+        return BAD_OPERAND;
+    if (r->path.len == 0)
+        return EMPTY_PATH;
+    if (!has_place(&c))
+        return ABSENT;
+    if (s->clipboard.kind != CLIPBOARD_BRANCH)
+        return WRONG_CLIPBOARD;
+    if (!may_change_parent(&c))
+        return NOT_GRANTED;
+    if (!has_room_for_branch(c.dossier, held, c.node))
+        return NO_ROOM;
+    enum refusal refused = meet(s, &c);
+    if (refused != GRANTED)
+        return refused;
+    nodes_paste_branch(&c.dossier->nodes, &held->nodes, c.node);
+    attributes_paste_branch(&c.dossier->attributes, &held->attributes, c.node);
+    permissions_paste_branch(&c.dossier->permissions, &held->permissions, c.node);
+    return GRANTED;
+}

@@ -1,0 +1,17 @@
+pub mod Parts
+pub mod Lends
+pub mod Law
+pub mod Walk
+pub mod Whole
+pub mod PartTwo
+pub mod PartNew
+pub mod PartLoad
+pub mod PartOut
+pub mod PartSaveShr
+pub mod PartClipShr
+pub mod Lent
+pub mod LentTwo
+pub mod LentLoad
+pub mod LentOut
+pub mod LentSaveShr
+pub mod LentClipShr
