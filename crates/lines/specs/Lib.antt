@@ -1,0 +1,5 @@
+pub mod Numbers
+pub mod Words
+pub mod Hex
+pub mod Paths
+pub mod Values
