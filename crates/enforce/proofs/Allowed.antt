@@ -1,11 +1,10 @@
 -- What the deed of a request that is not refused needs: the rows of the refusal table, by the request's number. Assumes nothing.
 use mathlib.Core.Path.{_≡_, refl, sym, subst}
-use mathlib.Core.Bool.{Bool, false, not, _&&_}
 use mathlib.Core.Option.{none}
-use mathlib.Core.List.{List, [], _∷_}
+use mathlib.Core.List.{[], _∷_}
 use Prim.Native.Nat.{ℕ, _+_, _≤_, _<_}
 use native.Mathlib.Omega.{arith}
-use lib.Dec.{T, eqb, leb, leb→le, not-T}
+use lib.Dec.{T, leb, leb→le, not-T}
 use lib.ListN.{length}
 use mir.Facts.{and-yes}
 use Rattle.laws.specs.Slots.{All}

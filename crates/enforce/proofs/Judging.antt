@@ -1,17 +1,15 @@
 -- What judging a request in parts says of the whole session: refused, or served with the messages of its grant. Assumes nothing.
 use mathlib.Core.Path.{_≡_, refl, sym, ap, subst, _∙_}
 use mathlib.Core.Option.{Option, none, some}
-use mathlib.Core.List.{[]}
-use Prim.Native.Nat.{ℕ, _≤_}
+use Prim.Native.Nat.{ℕ}
 use native.Mathlib.Omega.{arith}
 use lib.Dec.{T, leb, le→leb}
 use lib.ListN.{length}
 use mir.Facts.{yes-and}
 use Rattle.path.specs.Address.{stepsGood, valid}
-use Rattle.path.specs.View.{asked}
 use Rattle.model.specs.Things as things
 use Rattle.model.specs.Decide.{Provisions}
-use Rattle.model.specs.Refusals.{Request, Cached, Standing, provisions, granted, refusal}
+use Rattle.model.specs.Refusals.{Request, provisions, granted, refusal}
 use Rattle.model.specs.Run as run
 use Rattle.model.specs.Run.{found, cached, standing, dossier, step}
 use Rattle.tables.specs.declared.Dossier.{Dossier}

@@ -1,5 +1,5 @@
 -- A session that is sound stays sound, whatever is called: what is asked of it is what start gives and every call leaves. Assumes nothing.
-use mathlib.Core.Path.{_≡_, refl}
+use mathlib.Core.Path.{refl}
 use mathlib.Core.List.{List, [], _∷_}
 use Rattle.model.specs.Things.{fresh}
 use Rattle.model.specs.Run.{Call, step}

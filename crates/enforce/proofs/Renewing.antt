@@ -10,9 +10,9 @@ use Rattle.model.specs.Things as things
 use Rattle.model.specs.Things.{State}
 use Rattle.model.specs.Refusals.{userGood, firstThat}
 use Rattle.model.specs.Run as run
-use Rattle.model.specs.Run.{Reply, step, orRefused, dossierGood}
+use Rattle.model.specs.Run.{step, orRefused, dossierGood}
 use Rattle.tables.specs.declared.Dossier.{Dossier}
-use Rattle.tables.specs.View.{viewDossier, dossierOf, DossierSound}
+use Rattle.tables.specs.View.{dossierOf, DossierSound}
 use Rattle.state.specs.declared.DossiersOut.{DossiersOut}
 use Rattle.state.specs.declared.Outcome.the-variants.{Done, Refused}
 use Rattle.state.specs.View.{plainOf, answerOf}

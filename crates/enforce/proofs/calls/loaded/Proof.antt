@@ -2,12 +2,10 @@
 use borrow.Author.Needs.{needs}
 use borrow.Author.Tests.{eq-eqb, ne-eqb, lt-leb, le-leb, not-true, not-false}
 use mathlib.Core.Path.{_≡_, sym, ap, _∙_}
-use mathlib.Core.Bool.{true, false}
-use Prim.Native.Nat.{ℕ}
+use mathlib.Core.Bool.{true}
 use Rattle.model.specs.Image as images
 use Rattle.model.specs.Run.{dossierGood}
 use Rattle.image.specs.declared.Loaded.{Loaded}
-use Rattle.image.specs.View.{loadedOf}
 use Rattle.state.specs.declared.Outcome.the-variants.{BadRecord}
 use Rattle.state.specs.View.{plainOf}
 use Rattle.enforce.proofs.Loading.{found-bad, found-good, load-refused, load-bad, load-one, load-two}
