@@ -19,6 +19,7 @@ use lines::whys::TOO_LONG;
 use lines::words::Word;
 use lines::words::word_of;
 use parse::numbers::read4;
+use session::start;
 use session::via_load;
 use session::via_renew;
 use session::via_request;
@@ -32,7 +33,6 @@ use state::Request;
 use state::Session;
 use state::Stepped;
 use state::plain;
-use state::start;
 
 // ---- what is written
 

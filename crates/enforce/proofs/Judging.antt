@@ -27,7 +27,8 @@ use Rattle.judge.specs.declared.Judged.the-variants as told
 use Rattle.judge.specs.View.{viewCache, standingOf, judgedOf}
 use Rattle.twin.proofs.Refusal.{judged, outcome, refused-by}
 use Rattle.twin.proofs.Requests.{passed, request-common}
-use Rattle.enforce.specs.Deeds.{Served, carriedOf, numberedIn}
+use Rattle.state.specs.Parts.{numberedIn}
+use Rattle.enforce.specs.Deeds.{Served, carriedOf}
 use Rattle.enforce.proofs.Left.{numbered-view}
 
 -- ---- what a verdict says

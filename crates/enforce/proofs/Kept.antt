@@ -9,7 +9,7 @@ use Rattle.state.specs.View.{viewSession, sessionOf, SessionSound}
 use Rattle.state.specs.Calls.{sessionAfter}
 use Rattle.state.proofs.Sessions.{state-sound}
 
--- `state::start`
+-- `unguarded::start`
 pub start-sound : SessionSound (sessionOf fresh)
 start-sound = record { model = fresh; same = refl; fits = kept-sound [] }
 

@@ -15,27 +15,25 @@ use Rattle.model.specs.Moves.{attributeAt}
 use Rattle.model.specs.Refusals.{Request, provisions, granted, refusal}
 use Rattle.model.specs.Run as run
 use Rattle.model.specs.Run.{found, cached, standing, dossier, withDossier, withClipboard, withLog}
-use Rattle.model.specs.Sound.{Sound, SoundClipboard}
+use Rattle.model.specs.Sound.{SoundClipboard}
 use Rattle.tables.specs.declared.Dossier.{Dossier}
 use Rattle.tables.specs.declared.Clipboard.{Clipboard}
 use Rattle.tables.specs.View.{viewDossier, dossierOf, DossierSound, viewClipboard, clipboardOf}
-use Rattle.tables.proofs.Rows.{view-dossier, view-clipboard}
+use Rattle.tables.proofs.Rows.{view-clipboard}
 use Rattle.state.specs.declared.Log.{Log}
 use Rattle.state.specs.declared.Session.{Session}
 use Rattle.state.specs.declared.Answer.{Answer}
 use Rattle.state.specs.declared.Stepped.{Stepped}
 use Rattle.state.specs.View.{viewSession, sessionOf, viewLog, logOf, answerOf, SessionSound}
 use Rattle.state.specs.Calls.{LogSound}
+use Rattle.state.specs.Parts.{numberedIn}
 use Rattle.state.proofs.Signing.{rows-back}
 use Rattle.state.proofs.Logs.{log-count}
-use Rattle.state.proofs.Sessions.{one-sound, two-sound, clipboard-sound, log-sound}
+use Rattle.state.proofs.Sessions.{dossier-same, one-sound, two-sound, clipboard-sound, log-sound}
 use Rattle.twin.proofs.Requests.{passed, numbered}
 use Rattle.twin.proofs.KeepRequest.{below}
-use Rattle.enforce.specs.Deeds.{Served, carriedOf, numberedIn}
+use Rattle.enforce.specs.Deeds.{Served, carriedOf}
 use Rattle.enforce.proofs.Allowed.{Allowed}
-
-pub dossier-same : {d : Dossier} → DossierSound d → d ≡ dossierOf (viewDossier d)
-dossier-same {d} h = is-same dossierOf viewDossier view-dossier Sound d h
 
 -- ---- a session in parts
 -- with another dossier under a number, another clipboard and another log

@@ -3,7 +3,4 @@ pub mod Pasting
 pub mod Looked
 pub mod Left
 pub mod Judging
-pub mod Renewing
-pub mod Loading
-pub mod Saving
 pub mod Kept

@@ -1,13 +1,12 @@
-// The enforcing part: a request is judged, its provisions are enforced, and it is carried out; the calls without a guard beside it. By value: what a
+// The enforcing part: a request is judged, its provisions are enforced, and it is carried out. By value: what a
 // call leaves goes out as a new value, so a refusal gives back what came in.
 ghost use mathlib.Core.Path.{_≡_};
 ghost use Rattle.path.specs.View.{PathSound};
 ghost use Rattle.model.specs.Run as run;
-ghost use Rattle.state.specs.View.{SessionSound, viewRequest, plainOf};
+ghost use Rattle.state.specs.View.{SessionSound, viewRequest};
 ghost use Rattle.state.specs.Calls.{steppedOf};
-ghost use Rattle.state.specs.declared.Outcome.the-variants.{Done};
 ghost use Rattle.judge.specs.View.{viewPlaced};
-ghost use Rattle.enforce.specs.Deeds.{Served, carriedOf, numberedIn, replacedIn, clippedIn};
+ghost use Rattle.enforce.specs.Deeds.{Served, carriedOf};
 use crate::requests::add_attribute;
 use crate::requests::copy_attribute;
 use crate::requests::copy_branch;
@@ -26,71 +25,19 @@ use judge::Placed;
 use judge::cached;
 use judge::place::placed;
 use judge::table::judged;
-use state::Answer;
 use state::Outcome;
 use state::Request;
 use state::Session;
 use state::Stepped;
 use state::entries::logged;
+use state::parts::answered;
+use state::parts::clipped;
+use state::parts::cut;
+use state::parts::dossier_of;
+use state::parts::edited;
 use state::plain;
-use tables::Clipboard;
-use tables::Dossier;
 
-pub mod calls;
 pub mod requests;
-
-// The dossier of that number.
-fn dossier_of(s: Session, n: u8) -> Dossier
-    ensures { λ d. ⌜ d ≡ numberedIn n s ⌝ }
-{
-    if n == 1 {
-        return s.one;
-    }
-    s.two
-}
-
-// ---- what a request leaves
-
-// The session as it is.
-fn answered(s: Session, a: Answer) -> Stepped
-    ensures { λ o. ⌜ o ≡ record { session = s; answer = a } ⌝ }
-{
-    Stepped {
-        session: s,
-        answer: a,
-    }
-}
-
-// Another dossier under that number.
-fn edited(s: Session, n: u8, d: Dossier) -> Stepped
-    ensures { λ o. ⌜ o ≡ record { session = replacedIn n d s; answer = plainOf Done } ⌝ }
-{
-    let mut t = s;
-    if n == 1 {
-        t.one = d;
-        return answered(t, plain(Outcome::Done));
-    }
-    t.two = d;
-    answered(t, plain(Outcome::Done))
-}
-
-// Another clipboard.
-fn clipped(s: Session, c: Clipboard) -> Stepped
-    ensures { λ o. ⌜ o ≡ record { session = clippedIn c s; answer = plainOf Done } ⌝ }
-{
-    let mut t = s;
-    t.clipboard = c;
-    answered(t, plain(Outcome::Done))
-}
-
-// Both: a cut is a copy, then a delete.
-fn cut(s: Session, copied: Clipboard, n: u8, d: Dossier) -> Stepped
-    ensures { λ o. ⌜ o ≡ record { session = replacedIn n d (clippedIn copied s); answer = plainOf Done } ⌝ }
-{
-    let mut t = s;
-    t.clipboard = copied;
-    edited(t, n, d)
-}
 
 // The request carried out, its messages logged before: the match over request numbers 1 to 16, everything else refused 1.
 pub fn carried_out(s: Session, q: Placed, messages: u32) -> Stepped

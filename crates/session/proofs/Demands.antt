@@ -21,7 +21,7 @@ use Rattle.state.specs.declared.Answer.{Answer}
 use Rattle.state.specs.View.{viewSession, sessionOf, answerOf, SessionSound}
 use Rattle.state.specs.Calls.{onlyBuffer, Steps, Writes}
 use Rattle.state.proofs.Sessions.{state-sound}
-use Rattle.enforce.specs.Deeds.{numberedIn}
+use Rattle.state.specs.Parts.{numberedIn}
 use Rattle.enforce.proofs.Kept.{start-sound, call-sound}
 use Rattle.session.specs.Promises.{Refuses, Gave, gaveOf, Ran}
 use Rattle.session.proofs.Refused.{session-stays, buffer-stays, request-refused, request-carried}

@@ -26,7 +26,7 @@ use Rattle.state.specs.declared.Answer.{Answer}
 use Rattle.state.specs.View.{viewSession, sessionOf, answerOf, SessionSound}
 use Rattle.state.specs.Calls.{onlyBuffer, Steps, Writes}
 use Rattle.state.proofs.Sessions.{view-session, session-back, state-sound}
-use Rattle.enforce.specs.Deeds.{numberedIn}
+use Rattle.state.specs.Parts.{numberedIn}
 use Rattle.session.proofs.Frame.{loads}
 
 -- ---- the model's dossier n

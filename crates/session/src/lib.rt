@@ -14,7 +14,7 @@ use state::Stepped;
 pub fn start() -> Session
     ensures { λ r. ⌜ r ≡ sessionOf things.fresh ⌝ }
 {
-    state::start()
+    unguarded::start()
 }
 
 // A guarded request.
@@ -32,7 +32,7 @@ pub fn renew(s: &mut Session, n: u8, owner: u8) -> Answer
     requires { ⌜ SessionSound (now s) ⌝ }
     ensures { λ a. ⌜ Steps (now (s .entry)) (run.new n owner) a (now (s .exit)) ⌝ }
 {
-    let o = enforce::calls::renewed(s.one, s.two, n, owner);
+    let o = unguarded::renewed(s.one, s.two, n, owner);
     s.one = o.one;
     s.two = o.two;
     o.answer
@@ -43,7 +43,7 @@ pub fn load(s: &mut Session, n: u8, image: &[u8]) -> Answer
     requires { ⌜ SessionSound (now s) ⌝ }
     ensures { λ a. ⌜ Steps (now (s .entry)) (run.load n (now (image .entry))) a (now (s .exit)) ⌝ }
 {
-    let o = enforce::calls::loaded(s.one, s.two, n, image);
+    let o = unguarded::loaded(s.one, s.two, n, image);
     s.one = o.one;
     s.two = o.two;
     o.answer
@@ -54,7 +54,7 @@ pub fn save(s: &Session, n: u8, out: &mut [u8]) -> Answer
     requires { ⌜ SessionSound (now s) ⌝ }
     ensures { λ a. ⌜ Writes (now (s .entry)) (run.save n (now (out .entry))) a (now (out .exit)) ⌝ }
 {
-    enforce::calls::saved(s.one, s.two, n, out)
+    unguarded::saved(s.one, s.two, n, out)
 }
 
 // Save the clipboard into a lent buffer.
@@ -62,7 +62,7 @@ pub fn save_clipboard(s: &Session, out: &mut [u8]) -> Answer
     requires { ⌜ SessionSound (now s) ⌝ }
     ensures { λ a. ⌜ Writes (now (s .entry)) (run.saveClipboard (now (out .entry))) a (now (out .exit)) ⌝ }
 {
-    enforce::calls::clipboard_saved(s.clipboard, out)
+    unguarded::clipboard_saved(s.clipboard, out)
 }
 
 // Sign an agreement.

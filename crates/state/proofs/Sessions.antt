@@ -4,13 +4,17 @@ use mathlib.Core.List.{List, [], _∷_}
 use Prim.Native.Nat.{ℕ}
 use Rattle.laws.proofs.Fill.{is-fits, is-same}
 use Rattle.model.specs.Things.{State}
-use Rattle.model.specs.Sound.{SoundState}
-use Rattle.tables.specs.View.{DossierSound, ClipboardSound}
+use Rattle.model.specs.Sound.{Sound, SoundState}
+use Rattle.tables.specs.declared.Dossier.{Dossier}
+use Rattle.tables.specs.View.{viewDossier, dossierOf, DossierSound, ClipboardSound}
 use Rattle.tables.proofs.Rows.{view-dossier, view-clipboard}
 use Rattle.state.specs.declared.Session.{Session}
 use Rattle.state.specs.View.{viewSignatures, signaturesOf, viewSession, sessionOf, SessionSound}
 use Rattle.state.specs.Calls.{LogSound}
 use Rattle.state.proofs.Logs.{view-log}
+
+pub dossier-same : {d : Dossier} → DossierSound d → d ≡ dossierOf (viewDossier d)
+dossier-same {d} h = is-same dossierOf viewDossier view-dossier Sound d h
 
 pub view-signatures : (l : List ℕ) → viewSignatures (signaturesOf l) ≡ l
 view-signatures [] = refl

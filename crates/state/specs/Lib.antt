@@ -1,2 +1,3 @@
 pub mod View
 pub mod Calls
+pub mod Parts

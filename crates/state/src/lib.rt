@@ -1,10 +1,6 @@
 // What a session holds, what a request carries, and what a call answers.
 ghost use mathlib.Core.Path.{_≡_};
-ghost use Rattle.model.specs.Things as things;
-ghost use Rattle.state.specs.View.{plainOf, sessionOf};
-use crate::entries::no_entries;
-use edits::bare;
-use edits::empty_clipboard;
+ghost use Rattle.state.specs.View.{plainOf};
 use path::RawPath;
 use tables::Clipboard;
 use tables::Dossier;
@@ -13,6 +9,7 @@ use tables::Value;
 use tables::ask::Names;
 
 pub mod entries;
+pub mod parts;
 pub mod signatures;
 
 // The agreements that one user has signed, bit n for number n.
@@ -92,19 +89,5 @@ pub fn plain(outcome: Outcome) -> Answer
     Answer {
         outcome: outcome,
         names: none,
-    }
-}
-
-// A fresh session: two dossiers of a bare root owned by user 1, and empty clipboard, signatures and log.
-pub fn start() -> Session
-    ensures { λ r. ⌜ r ≡ sessionOf things.fresh ⌝ }
-{
-    let none = Agreements { signed: 0 };
-    Session {
-        one: bare(1),
-        two: bare(1),
-        clipboard: empty_clipboard(),
-        signatures: [none; 64],
-        log: no_entries(),
     }
 }

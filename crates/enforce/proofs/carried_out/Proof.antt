@@ -8,7 +8,8 @@ use Rattle.state.proofs.Sessions.{clipboard-sound}
 use Rattle.enforce.proofs.Allowed.{add-room, node-there, node-there-cut, name-room, attribute-there, attribute-there-cut, permission-room, delegate-room, known}
 use Rattle.enforce.proofs.Pasting.{pasted-branch, branch-room, attribute-room}
 use Rattle.enforce.proofs.Looked.{copied-any}
-use Rattle.enforce.proofs.Left.{dossier-same, numbered-sound, clipboard-same, log-room, ready, leaves, leaves-both}
+use Rattle.state.proofs.Sessions.{dossier-same}
+use Rattle.enforce.proofs.Left.{numbered-sound, clipboard-same, log-room, ready, leaves, leaves-both}
 use Rattle.enforce.proofs.carried_out.Statement.{statement}
 use Rattle.enforce.proofs.carried_out.Tie as tie
 

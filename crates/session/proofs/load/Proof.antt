@@ -13,10 +13,10 @@ use Rattle.state.proofs.Sessions.{one-sound, two-sound}
 use Rattle.session.specs.Parts.{storeOne, storeTwo}
 use Rattle.session.proofs.Frame.{load-means}
 use Rattle.session.proofs.SessionParts as P
-use Rattle.enforce.proofs.calls.loaded as g
-use Rattle.enforce.proofs.calls.loaded.Symbol as g-def
-use Rattle.enforce.proofs.calls.loaded.Symbol.{name as #g}
-use Rattle.enforce.proofs.calls.loaded.Met as g-thm
+use Rattle.unguarded.proofs.loaded as g
+use Rattle.unguarded.proofs.loaded.Symbol as g-def
+use Rattle.unguarded.proofs.loaded.Symbol.{name as #g}
+use Rattle.unguarded.proofs.loaded.Met as g-thm
 use Rattle.session.proofs.load.Key.{name as #f}
 use Rattle.session.proofs.load as f
 use Rattle.session.proofs.load.Statement as stated
@@ -32,4 +32,4 @@ load-spec 𝓤 H 𝓜 𝓖 𝓡 =
     (some (λ x. SessionSound (x .0))) (some (λ x. DossierSound (x .0) × DossierSound (x .1 .0))) (λ h n ys ok. (one-sound ok, two-sound ok))
     (λ one two n ys. dossiersAfter one two (run.load n ys)) (λ h n ys. answerTo h (run.load n ys)) (λ h n ys. sessionAfter h (run.load n ys)) (λ h n ys ok. load-means ok n ys)
     #g 𝓤 H (𝓖 .A) (givenOf 𝓤 H 𝓜 𝓖) (tablesOf 𝓤 H 𝓜 (tables 𝓤 H 𝓜 𝓡 code.env))
-    (cited 𝓤 H (tripleOf 𝓤 H (𝓖 .A) g.signature (g.spec 𝓤 H (𝓖 .A) (𝓜 .mem) (𝓡 .run))) 𝓜 𝓡 code.env #g g-def.routine code.calls-enforce·calls·loaded (g-thm.met 𝓤 H 𝓜 𝓖 𝓡)))
+    (cited 𝓤 H (tripleOf 𝓤 H (𝓖 .A) g.signature (g.spec 𝓤 H (𝓖 .A) (𝓜 .mem) (𝓡 .run))) 𝓜 𝓡 code.env #g g-def.routine code.calls-unguarded·loaded (g-thm.met 𝓤 H 𝓜 𝓖 𝓡)))

@@ -13,10 +13,10 @@ use Rattle.state.proofs.Sessions.{one-sound, two-sound}
 use Rattle.session.specs.Parts.{storeOne, storeTwo}
 use Rattle.session.proofs.Frame.{new-means}
 use Rattle.session.proofs.SessionParts as P
-use Rattle.enforce.proofs.calls.renewed as g
-use Rattle.enforce.proofs.calls.renewed.Symbol as g-def
-use Rattle.enforce.proofs.calls.renewed.Symbol.{name as #g}
-use Rattle.enforce.proofs.calls.renewed.Met as g-thm
+use Rattle.unguarded.proofs.renewed as g
+use Rattle.unguarded.proofs.renewed.Symbol as g-def
+use Rattle.unguarded.proofs.renewed.Symbol.{name as #g}
+use Rattle.unguarded.proofs.renewed.Met as g-thm
 use Rattle.session.proofs.renew.Key.{name as #f}
 use Rattle.session.proofs.renew as f
 use Rattle.session.proofs.renew.Statement as stated
@@ -32,4 +32,4 @@ renew-spec 𝓤 H 𝓜 𝓖 𝓡 =
     (some (λ x. SessionSound (x .0))) (some (λ x. DossierSound (x .0) × DossierSound (x .1 .0))) (λ h n m ok. (one-sound ok, two-sound ok))
     (λ one two n m. dossiersAfter one two (run.new n m)) (λ h n m. answerTo h (run.new n m)) (λ h n m. sessionAfter h (run.new n m)) (λ h n m ok. new-means ok n m)
     #g 𝓤 H (𝓖 .A) (givenOf 𝓤 H 𝓜 𝓖) (tablesOf 𝓤 H 𝓜 (tables 𝓤 H 𝓜 𝓡 code.env))
-    (cited 𝓤 H (tripleOf 𝓤 H (𝓖 .A) g.signature (g.spec 𝓤 H (𝓖 .A) (𝓜 .mem) (𝓡 .run))) 𝓜 𝓡 code.env #g g-def.routine code.calls-enforce·calls·renewed (g-thm.met 𝓤 H 𝓜 𝓖 𝓡)))
+    (cited 𝓤 H (tripleOf 𝓤 H (𝓖 .A) g.signature (g.spec 𝓤 H (𝓖 .A) (𝓜 .mem) (𝓡 .run))) 𝓜 𝓡 code.env #g g-def.routine code.calls-unguarded·renewed (g-thm.met 𝓤 H 𝓜 𝓖 𝓡)))

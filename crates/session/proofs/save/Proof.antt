@@ -13,10 +13,10 @@ use Rattle.state.proofs.Sessions.{one-sound, two-sound}
 use Rattle.state.proofs.Session.Laws.{the-copy}
 use Rattle.session.proofs.Frame.{save-means}
 use Rattle.session.proofs.SessionParts as P
-use Rattle.enforce.proofs.calls.saved as g
-use Rattle.enforce.proofs.calls.saved.Symbol as g-def
-use Rattle.enforce.proofs.calls.saved.Symbol.{name as #g}
-use Rattle.enforce.proofs.calls.saved.Met as g-thm
+use Rattle.unguarded.proofs.saved as g
+use Rattle.unguarded.proofs.saved.Symbol as g-def
+use Rattle.unguarded.proofs.saved.Symbol.{name as #g}
+use Rattle.unguarded.proofs.saved.Met as g-thm
 use Rattle.session.proofs.save.Key.{name as #f}
 use Rattle.session.proofs.save as f
 use Rattle.session.proofs.save.Statement as stated
@@ -32,4 +32,4 @@ save-spec 𝓤 H 𝓜 𝓖 𝓡 =
     (λ one two n ys. answerIn (having one two) (run.save n ys)) (λ one two n ys. bufferIn (having one two) (run.save n ys))
     (λ h n ys. answerTo h (run.save n ys)) (λ h n ys. bufferAfter h (run.save n ys)) (λ h n ys ok. save-means h n ys)
     #g 𝓤 H (𝓖 .A) (givenOf 𝓤 H 𝓜 𝓖) (tablesOf 𝓤 H 𝓜 (tables 𝓤 H 𝓜 𝓡 code.env))
-    (cited 𝓤 H (tripleOf 𝓤 H (𝓖 .A) g.signature (g.spec 𝓤 H (𝓖 .A) (𝓜 .mem) (𝓡 .run))) 𝓜 𝓡 code.env #g g-def.routine code.calls-enforce·calls·saved (g-thm.met 𝓤 H 𝓜 𝓖 𝓡)))
+    (cited 𝓤 H (tripleOf 𝓤 H (𝓖 .A) g.signature (g.spec 𝓤 H (𝓖 .A) (𝓜 .mem) (𝓡 .run))) 𝓜 𝓡 code.env #g g-def.routine code.calls-unguarded·saved (g-thm.met 𝓤 H 𝓜 𝓖 𝓡)))

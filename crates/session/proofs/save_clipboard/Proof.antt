@@ -13,10 +13,10 @@ use Rattle.state.proofs.Sessions.{clipboard-sound}
 use Rattle.state.proofs.Session.Laws.{the-copy}
 use Rattle.session.proofs.Frame.{clipboard-means}
 use Rattle.session.proofs.SessionParts as P
-use Rattle.enforce.proofs.calls.clipboard_saved as g
-use Rattle.enforce.proofs.calls.clipboard_saved.Symbol as g-def
-use Rattle.enforce.proofs.calls.clipboard_saved.Symbol.{name as #g}
-use Rattle.enforce.proofs.calls.clipboard_saved.Met as g-thm
+use Rattle.unguarded.proofs.clipboard_saved as g
+use Rattle.unguarded.proofs.clipboard_saved.Symbol as g-def
+use Rattle.unguarded.proofs.clipboard_saved.Symbol.{name as #g}
+use Rattle.unguarded.proofs.clipboard_saved.Met as g-thm
 use Rattle.session.proofs.save_clipboard.Key.{name as #f}
 use Rattle.session.proofs.save_clipboard as f
 use Rattle.session.proofs.save_clipboard.Statement as stated
@@ -32,4 +32,4 @@ save-clipboard-spec 𝓤 H 𝓜 𝓖 𝓡 =
     (λ c ys. answerIn (havingClipboard c) (run.saveClipboard ys)) (λ c ys. bufferIn (havingClipboard c) (run.saveClipboard ys))
     (λ h ys. answerTo h (run.saveClipboard ys)) (λ h ys. bufferAfter h (run.saveClipboard ys)) (λ h ys ok. clipboard-means h ys)
     #g 𝓤 H (𝓖 .A) (givenOf 𝓤 H 𝓜 𝓖) (tablesOf 𝓤 H 𝓜 (tables 𝓤 H 𝓜 𝓡 code.env))
-    (cited 𝓤 H (tripleOf 𝓤 H (𝓖 .A) g.signature (g.spec 𝓤 H (𝓖 .A) (𝓜 .mem) (𝓡 .run))) 𝓜 𝓡 code.env #g g-def.routine code.calls-enforce·calls·clipboard-saved (g-thm.met 𝓤 H 𝓜 𝓖 𝓡)))
+    (cited 𝓤 H (tripleOf 𝓤 H (𝓖 .A) g.signature (g.spec 𝓤 H (𝓖 .A) (𝓜 .mem) (𝓡 .run))) 𝓜 𝓡 code.env #g g-def.routine code.calls-unguarded·clipboard-saved (g-thm.met 𝓤 H 𝓜 𝓖 𝓡)))

@@ -1,0 +1,10 @@
+-- `state::parts::answered` meets its contract. Assumes nothing.
+use mathlib.Core.Path.{refl}
+use Rattle.state.proofs.parts.answered.Statement.{statement}
+use Rattle.state.proofs.parts.answered.Tie as tie
+
+returns : tie.Need-returns
+returns c = refl
+
+pub answered-spec : {M : Type 1} → statement M
+answered-spec = tie.close (tie.spec returns)

@@ -1,0 +1,3 @@
+pub mod Renewing
+pub mod Loading
+pub mod Saving
