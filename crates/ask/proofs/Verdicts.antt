@@ -19,8 +19,8 @@ use Rattle.model.specs.Refusals.{missing, roleGood, userGood, timeGood, between
 use Rattle.model.specs.Image as images
 use Rattle.model.specs.Run.{Question, badQuestion, asker, mayAsk, mayAskIn, imageOf}
 use Rattle.roundtrip.proofs.SaveLoad.{load-sound}
-use Rattle.tables.specs.declared.ask.Owner.{Owner}
-use Rattle.tables.specs.declared.ask.Owner.the-variants.{Nobody, User}
+use Rattle.tables.specs.declared.Owner.{Owner}
+use Rattle.tables.specs.declared.Owner.the-variants.{Nobody, User}
 use Rattle.tables.specs.declared.Dossier.{Dossier}
 use Rattle.tables.specs.View.{viewDossier, DossierFits}
 use Rattle.tables.proofs.Rows.{view-dossier}

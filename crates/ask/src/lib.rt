@@ -26,7 +26,7 @@ use path::RawPath;
 use path::is_valid;
 use path::path_of;
 use tables::Dossier;
-use tables::ask::Owner;
+use tables::Owner;
 
 // What is asked, as it came: any numbers. Name 0 is the node at the path.
 pub struct Question {

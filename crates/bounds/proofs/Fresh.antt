@@ -17,10 +17,10 @@ use Rattle.model.specs.Things.{Attribute, Permission, Row}
 use Rattle.model.specs.Decide.{clash, clashAny}
 use Rattle.model.specs.Image.{there}
 use Rattle.model.specs.Moves.{at, named, ownerIn, attributeIn, permissionsIn}
-use Rattle.tables.specs.declared.ask.Owner.{Owner}
-use Rattle.tables.specs.declared.ask.Owner.the-variants.{Nobody}
-use Rattle.tables.specs.declared.ask.Found.{Found}
-use Rattle.tables.specs.declared.ask.Found.the-variants.{Absent}
+use Rattle.tables.specs.declared.Owner.{Owner}
+use Rattle.tables.specs.declared.Owner.the-variants.{Nobody}
+use Rattle.tables.specs.declared.Found.{Found}
+use Rattle.tables.specs.declared.Found.the-variants.{Absent}
 use Rattle.tables.specs.View.{ownerOf, foundOf}
 use Rattle.roundtrip.proofs.Found.{there-head}
 use Rattle.moves.specs.Room.{FreshNode, FreshAttribute, FreshPermission}

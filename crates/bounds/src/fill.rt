@@ -4,22 +4,22 @@ ghost use Rattle.path.specs.View.{PathSound};
 ghost use Rattle.tables.specs.View.{NodesSound, AttributesSound, PermissionsSound, DossierFits};
 use decide::clash;
 use decide::clash_in;
+use lookups::attribute_in;
+use lookups::owner_in;
 use path::Path;
 use path::RawPath;
 use tables::Attribute;
 use tables::Attributes;
 use tables::Dossier;
+use tables::Found;
 use tables::Grant;
 use tables::Node;
 use tables::Nodes;
+use tables::Owner;
 use tables::Permission;
 use tables::Permissions;
 use tables::Span;
 use tables::Value;
-use tables::ask::Found;
-use tables::ask::Owner;
-use tables::ask::attribute_in;
-use tables::ask::owner_in;
 
 // ---- paths
 

@@ -8,20 +8,20 @@ use crate::fill::place;
 use crate::fill::top;
 use crate::show;
 use crate::show::text;
+use lookups::attribute_in;
+use lookups::count_on;
+use lookups::holds_in;
+use lookups::names_in;
+use lookups::owner_in;
 use path::Path;
 use tables::Attributes;
+use tables::Found;
 use tables::Grant;
+use tables::Names;
 use tables::Nodes;
+use tables::Owner;
 use tables::Permissions;
 use tables::Span;
-use tables::ask::Found;
-use tables::ask::Names;
-use tables::ask::Owner;
-use tables::ask::attribute_in;
-use tables::ask::count_on;
-use tables::ask::holds_in;
-use tables::ask::names_in;
-use tables::ask::owner_in;
 
 pub fn lookups(n: Nodes, a: Attributes, q: Permissions)
     requires { ⌜ NodesSound n × AttributesSound a × PermissionsSound q ⌝ }

@@ -1,10 +1,10 @@
 // A dossier filled to every bound of document 01: what it holds, in image order, and what is decided at the edges.
 ghost use Rattle.tables.specs.View.{NodesSound, AttributesSound, PermissionsSound};
 use crate::show::line;
+use lookups;
 use tables::Attributes;
 use tables::Nodes;
 use tables::Permissions;
-use tables::ask;
 
 mod edges;
 mod fill;
@@ -43,24 +43,24 @@ fn counts(n: Nodes, a: Attributes, q: Permissions)
 fn depths(n: Nodes)
     requires { ⌜ NodesSound n ⌝ }
 {
-    line(b"steps below / ", ask::depth_under(n, fill::top()));
-    line(b"steps below 1 ", ask::depth_under(n, fill::place(1)));
+    line(b"steps below / ", lookups::depth_under(n, fill::top()));
+    line(b"steps below 1 ", lookups::depth_under(n, fill::place(1)));
 }
 
 fn children(n: Nodes)
     requires { ⌜ NodesSound n ⌝ }
 {
-    line(b"children of / ", ask::children_in(n, fill::top()));
-    line(b"children of 1 ", ask::children_in(n, fill::place(1)));
-    line(b"children of 2 ", ask::children_in(n, fill::place(2)));
-    line(b"children of 3 ", ask::children_in(n, fill::place(3)));
+    line(b"children of / ", lookups::children_in(n, fill::top()));
+    line(b"children of 1 ", lookups::children_in(n, fill::place(1)));
+    line(b"children of 2 ", lookups::children_in(n, fill::place(2)));
+    line(b"children of 3 ", lookups::children_in(n, fill::place(3)));
 }
 
 fn on_nodes(a: Attributes)
     requires { ⌜ AttributesSound a ⌝ }
 {
-    line(b"attributes on / ", ask::count_on(a, fill::top()));
-    line(b"attributes on 16 ", ask::count_on(a, fill::place(16)));
+    line(b"attributes on / ", lookups::count_on(a, fill::top()));
+    line(b"attributes on 16 ", lookups::count_on(a, fill::place(16)));
 }
 
 // The branch at 2.
@@ -68,36 +68,36 @@ fn branch(n: Nodes, a: Attributes, q: Permissions)
     requires { ⌜ NodesSound n × AttributesSound a × PermissionsSound q ⌝ }
 {
     let p = fill::place(2);
-    line(b"nodes of the branch at 2 ", ask::nodes_under(n, p));
+    line(b"nodes of the branch at 2 ", lookups::nodes_under(n, p));
     line(
         b"attributes of the branch at 2 ",
-        ask::attributes_under(a, p),
+        lookups::attributes_under(a, p),
     );
     line(
         b"permissions of the branch at 2 ",
-        ask::permissions_under(q, p),
+        lookups::permissions_under(q, p),
     );
-    line(b"steps of the branch at 2 ", ask::depth_under(n, p));
+    line(b"steps of the branch at 2 ", lookups::depth_under(n, p));
 }
 
 // ---- bounds
 
 fn bounds() {
     show::text(b"2. bounds\n");
-    show::bound(64, b" nodes: ", ask::nodes_over(64));
-    show::bound(65, b" nodes: ", ask::nodes_over(65));
-    show::bound(6, b" steps: ", ask::depth_over(6));
-    show::bound(7, b" steps: ", ask::depth_over(7));
-    show::bound(32, b" children: ", ask::children_over(32));
-    show::bound(33, b" children: ", ask::children_over(33));
+    show::bound(64, b" nodes: ", lookups::nodes_over(64));
+    show::bound(65, b" nodes: ", lookups::nodes_over(65));
+    show::bound(6, b" steps: ", lookups::depth_over(6));
+    show::bound(7, b" steps: ", lookups::depth_over(7));
+    show::bound(32, b" children: ", lookups::children_over(32));
+    show::bound(33, b" children: ", lookups::children_over(33));
     more_bounds();
 }
 
 fn more_bounds() {
-    show::bound(256, b" attributes: ", ask::attributes_over(256));
-    show::bound(257, b" attributes: ", ask::attributes_over(257));
-    show::bound(16, b" attributes on a node: ", ask::on_node_over(16));
-    show::bound(17, b" attributes on a node: ", ask::on_node_over(17));
-    show::bound(128, b" permissions: ", ask::permissions_over(128));
-    show::bound(129, b" permissions: ", ask::permissions_over(129));
+    show::bound(256, b" attributes: ", lookups::attributes_over(256));
+    show::bound(257, b" attributes: ", lookups::attributes_over(257));
+    show::bound(16, b" attributes on a node: ", lookups::on_node_over(16));
+    show::bound(17, b" attributes on a node: ", lookups::on_node_over(17));
+    show::bound(128, b" permissions: ", lookups::permissions_over(128));
+    show::bound(129, b" permissions: ", lookups::permissions_over(129));
 }

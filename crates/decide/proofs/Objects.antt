@@ -16,10 +16,10 @@ use Rattle.model.specs.Things.{Attribute, Permission, Dossier}
 use Rattle.model.specs.Decide.{Object, Provisions, nothing, given, joined}
 use Rattle.model.specs.Moves.{ownerIn, permissionsIn, attributeIn, nodeAt, attributeObject, objectAt}
 use Rattle.tables.specs.declared.Value.{Value}
-use Rattle.tables.specs.declared.ask.Owner.{Owner}
-use Rattle.tables.specs.declared.ask.Owner.the-variants.{Nobody, User}
-use Rattle.tables.specs.declared.ask.Found.{Found}
-use Rattle.tables.specs.declared.ask.Found.the-variants.{Absent, Present}
+use Rattle.tables.specs.declared.Owner.{Owner}
+use Rattle.tables.specs.declared.Owner.the-variants.{Nobody, User}
+use Rattle.tables.specs.declared.Found.{Found}
+use Rattle.tables.specs.declared.Found.the-variants.{Absent, Present}
 use Rattle.tables.specs.View.{ownerOf, foundOf}
 use Rattle.decide.specs.declared.Decision.{Decision}
 use Rattle.decide.specs.declared.Decision.the-variants.{Denied, Granted}

@@ -6,8 +6,8 @@ use Rattle.model.specs.Things.{whole, Permission}
 use Rattle.model.specs.Decide as model
 use Rattle.model.specs.Decide.{Provisions}
 use Rattle.model.specs.Refusals.{Request}
-use Rattle.tables.specs.declared.ask.Owner.{Owner}
-use Rattle.tables.specs.declared.ask.Owner.the-variants.{Nobody, User}
+use Rattle.tables.specs.declared.Owner.{Owner}
+use Rattle.tables.specs.declared.Owner.the-variants.{Nobody, User}
 use Rattle.decide.specs.declared.Subject.{Subject}
 use Rattle.decide.specs.declared.Asked.{Asked}
 use Rattle.decide.specs.declared.Decision.{Decision}

@@ -8,16 +8,16 @@ ghost use Rattle.model.specs.Refusals as refusals;
 ghost use Rattle.model.specs.Run as run;
 ghost use Rattle.tables.specs.View.{viewGrant, viewPermissions, PermissionsSound, viewDossier, DossierFits};
 ghost use Rattle.decide.specs.View.{viewSubject, decisionOf, viewDecision, viewAsked, objectOwner};
+use lookups::attribute_in;
+use lookups::owner_in;
 use path::Path;
 use path::is_same;
 use path::parent_of;
 use tables::Dossier;
+use tables::Found;
 use tables::Grant;
+use tables::Owner;
 use tables::Permissions;
-use tables::ask::Found;
-use tables::ask::Owner;
-use tables::ask::attribute_in;
-use tables::ask::owner_in;
 use tables::place::object_before;
 
 // Who asks, in which role, when.

@@ -8,8 +8,8 @@ use Rattle.model.specs.Things.{Attribute, Dossier, Clipboard, empty, single}
 use Rattle.model.specs.Moves.{permissionsFor, attributeAt, copied}
 use Rattle.model.specs.Image.{there}
 use Rattle.model.specs.Run as run
-use Rattle.tables.specs.declared.ask.Found.{Found}
-use Rattle.tables.specs.declared.ask.Found.the-variants.{Absent, Present}
+use Rattle.tables.specs.declared.Found.{Found}
+use Rattle.tables.specs.declared.Found.the-variants.{Absent, Present}
 use Rattle.tables.specs.View.{viewValue, foundOf}
 use Rattle.tables.proofs.Rows.{value-back}
 use Rattle.moves.proofs.Changed.{attribute-found}

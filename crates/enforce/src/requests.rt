@@ -12,16 +12,16 @@ ghost use Rattle.edits.specs.Room.{AttributeRoom};
 ghost use Rattle.state.specs.View.{answerOf};
 use edits;
 use judge::Placed;
+use lookups::attribute_in;
+use lookups::children_in;
+use lookups::names_in;
 use state::Answer;
 use state::Outcome;
 use state::plain;
 use tables::Attribute;
 use tables::Clipboard;
 use tables::Dossier;
-use tables::ask::Found;
-use tables::ask::attribute_in;
-use tables::ask::children_in;
-use tables::ask::names_in;
+use tables::Found;
 
 // 1: the names on the node, ascending, and its child count.
 pub fn read_node(d: Dossier, q: Placed) -> Answer

@@ -12,8 +12,8 @@ use Rattle.model.specs.Moves.{ownerIn, attributeIn, nodeAt, attributeObject, ob
 use Rattle.model.specs.Image.{there}
 use Rattle.roundtrip.proofs.Checks.{there-map}
 use Rattle.tables.specs.declared.Value.{Value}
-use Rattle.tables.specs.declared.ask.Owner.the-variants.{Nobody, User}
-use Rattle.tables.specs.declared.ask.Found.the-variants.{Absent, Present}
+use Rattle.tables.specs.declared.Owner.the-variants.{Nobody, User}
+use Rattle.tables.specs.declared.Found.the-variants.{Absent, Present}
 use Rattle.tables.specs.View.{ownerOf, foundOf}
 
 pub nobody-there : (o : Option ℕ) → Nobody ≡ ownerOf o → false ≡ there o

@@ -11,6 +11,7 @@ ghost use Rattle.tables.specs.View.{viewNodes, NodesSound};
 ghost use Rattle.image.specs.Records.{Breaks};
 ghost use Rattle.image.specs.Rows.{NoneAfter, NodesDone, nodeFitsIn};
 use crate::records::record_after;
+use lookups::owner_in;
 use path::Path;
 use path::child_of;
 use path::is_before;
@@ -19,8 +20,7 @@ use path::parent_of;
 use path::size;
 use tables::Node;
 use tables::Nodes;
-use tables::ask::Owner;
-use tables::ask::owner_in;
+use tables::Owner;
 use tables::no_nodes;
 
 // ok: `next` records are good nodes and the table holds them; record `next` is no node, or there is none. Else record `next` is bad. Counted from 0.

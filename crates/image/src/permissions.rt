@@ -13,13 +13,13 @@ ghost use Rattle.image.specs.Rows.{AttributesDone, PermissionsUpto};
 use crate::nodes::node_there;
 use crate::records::record_after;
 use decide::clash_in;
+use lookups::attribute_in;
 use path::Path;
 use tables::Attributes;
+use tables::Found;
 use tables::Nodes;
 use tables::Permission;
 use tables::Permissions;
-use tables::ask::Found;
-use tables::ask::attribute_in;
 use tables::no_permissions;
 
 // ok: all records are good and the table holds the permissions. Else record `next` is bad. Counted from 0.

@@ -17,10 +17,10 @@ use Rattle.model.specs.Decide.{Object}
 use Rattle.model.specs.Moves.{at, ownerIn, attributeIn, permissionsIn, namesIn, childStep, childrenIn, nodeAt, attributeObject, objectAt, holds}
 use Rattle.model.specs.Refusals.{isRoot, missing, held, permissionsOf}
 use Rattle.tables.specs.declared.Dossier as tables
-use Rattle.tables.specs.declared.ask.Owner.{Owner}
-use Rattle.tables.specs.declared.ask.Owner.the-variants.{Nobody, User}
-use Rattle.tables.specs.declared.ask.Found.{Found}
-use Rattle.tables.specs.declared.ask.Found.the-variants.{Absent, Present}
+use Rattle.tables.specs.declared.Owner.{Owner}
+use Rattle.tables.specs.declared.Owner.the-variants.{Nobody, User}
+use Rattle.tables.specs.declared.Found.{Found}
+use Rattle.tables.specs.declared.Found.the-variants.{Absent, Present}
 use Rattle.tables.specs.View.{viewNodes, viewAttributes, viewPermissions, DossierFits, ownerOf, foundOf}
 use Rattle.tables.proofs.Parts.{nodes-sound, attributes-sound, permissions-sound}
 use Rattle.tables.proofs.Rows.{nodes-held, attributes-held, permissions-held}

@@ -4,11 +4,11 @@ ghost use mathlib.Core.Path.{_≡_};
 ghost use Rattle.model.specs.Run as run;
 ghost use Rattle.tables.specs.View.{viewClipboard, ClipboardSound};
 ghost use Rattle.judge.specs.View.{viewCache, CacheSound};
+use lookups::deepest_in;
 use path::Path;
 use tables::Clipboard;
 use tables::Grant;
 use tables::Value;
-use tables::ask::deepest_in;
 
 pub mod place;
 pub mod room;

@@ -14,6 +14,10 @@ ghost use Rattle.judge.specs.View.{viewPlaced, viewCache};
 use crate::Cache;
 use crate::Placed;
 use decide::owner_of;
+use lookups::attribute_in;
+use lookups::children_in;
+use lookups::holds_in;
+use lookups::owner_in;
 use path::Path;
 use path::last_step;
 use path::parent_of;
@@ -21,13 +25,9 @@ use path::path_of;
 use path::size;
 use state::Request;
 use tables::Dossier;
+use tables::Found;
 use tables::Grant;
-use tables::ask::Found;
-use tables::ask::Owner;
-use tables::ask::attribute_in;
-use tables::ask::children_in;
-use tables::ask::holds_in;
-use tables::ask::owner_in;
+use tables::Owner;
 
 // The request with its path taken.
 pub fn placed(r: Request) -> Placed

@@ -18,19 +18,19 @@ use decide::clash_in;
 use decide::cover_in;
 use decide::owner_of;
 use decide::subset;
+use lookups::attributes_over;
+use lookups::children_in;
+use lookups::children_over;
+use lookups::count_on;
+use lookups::depth_over;
+use lookups::nodes_over;
+use lookups::on_node_over;
+use lookups::permissions_over;
 use path::parent_of;
 use path::size;
 use state::entries::message_count;
 use tables::Dossier;
-use tables::ask::Owner;
-use tables::ask::attributes_over;
-use tables::ask::children_in;
-use tables::ask::children_over;
-use tables::ask::count_on;
-use tables::ask::depth_over;
-use tables::ask::nodes_over;
-use tables::ask::on_node_over;
-use tables::ask::permissions_over;
+use tables::Owner;
 
 // ---- the permissions of the object
 

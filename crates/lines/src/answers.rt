@@ -5,8 +5,8 @@ use crate::words::word_of;
 use encode::pattern_of;
 use state::Answer;
 use state::Outcome;
+use tables::Names;
 use tables::Value;
-use tables::ask::Names;
 
 // ---- bytes, words and numbers
 

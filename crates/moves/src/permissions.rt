@@ -24,9 +24,9 @@ use path::root;
 use tables::Grant;
 use tables::Permission;
 use tables::Permissions;
-use tables::ask::same_grant;
 use tables::blank_permission;
 use tables::order::permission_before;
+use tables::order::same_grant;
 
 // The same at another path: all but its place stays.
 fn placed(a: Permission, p: Path) -> Permission

@@ -10,7 +10,7 @@ use Rattle.model.specs.Refusals as refusals
 use Rattle.model.specs.Run as run
 use Rattle.model.specs.Sound.{SoundState}
 use Rattle.tables.specs.View.{viewValue, valueOf, viewGrant, viewDossier, dossierOf, viewClipboard, clipboardOf, namesOf}
-use Rattle.tables.specs.declared.ask.Names.{Names}
+use Rattle.tables.specs.declared.Names.{Names}
 use Rattle.state.specs.declared.Agreements.{Agreements}
 use Rattle.state.specs.declared.Entry.{Entry}
 use Rattle.state.specs.declared.Log.{Log}

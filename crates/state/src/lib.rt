@@ -5,8 +5,8 @@ use path::RawPath;
 use tables::Clipboard;
 use tables::Dossier;
 use tables::Grant;
+use tables::Names;
 use tables::Value;
-use tables::ask::Names;
 
 pub mod entries;
 pub mod parts;

@@ -26,11 +26,11 @@ use Rattle.tables.specs.declared.Attributes.{Attributes}
 use Rattle.tables.specs.declared.Permissions.{Permissions}
 use Rattle.tables.specs.declared.Dossier.{Dossier}
 use Rattle.tables.specs.declared.Clipboard.{Clipboard}
-use Rattle.tables.specs.declared.ask.Owner.{Owner}
-use Rattle.tables.specs.declared.ask.Owner.the-variants.{Nobody, User}
-use Rattle.tables.specs.declared.ask.Found.{Found}
-use Rattle.tables.specs.declared.ask.Found.the-variants.{Absent, Present}
-use Rattle.tables.specs.declared.ask.Names.{Names}
+use Rattle.tables.specs.declared.Owner.{Owner}
+use Rattle.tables.specs.declared.Owner.the-variants.{Nobody, User}
+use Rattle.tables.specs.declared.Found.{Found}
+use Rattle.tables.specs.declared.Found.the-variants.{Absent, Present}
+use Rattle.tables.specs.declared.Names.{Names}
 
 -- ---- what a path must be, of a row
 abbrev pub AtPath : {P : Type 0} → Row P → Type 0

@@ -1,11 +1,10 @@
-// The dossier as arrays: rows of nodes, attributes and permissions, and what is asked of them.
+// The dossier as arrays: rows of nodes, attributes and permissions, in the order of an image.
 ghost use mathlib.Core.Path.{_≡_};
 ghost use mathlib.Core.List.{[]};
 ghost use Rattle.tables.specs.View.{nodesOf, attributesOf, permissionsOf, blankNode, blankAttribute, blankPermission};
 use path::Path;
 use path::root;
 
-pub mod ask;
 pub mod order;
 pub mod place;
 
@@ -25,6 +24,24 @@ pub struct Attribute {
     pub name: u16,
     pub owner: u8,
     pub value: Value,
+}
+
+// A node's owner, or that there is no such node: nobody is no user.
+pub enum Owner {
+    Nobody,
+    User(u8),
+}
+
+// An attribute's owner and value, or that there is none.
+pub enum Found {
+    Absent,
+    Present(u8, Value),
+}
+
+// The names on a node, ascending; unused places are 0.
+pub struct Names {
+    pub names: [u16; 16],
+    pub count: usize,
 }
 
 // Both ends of an interval of times belong to it.

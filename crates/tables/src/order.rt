@@ -1,6 +1,8 @@
-// The order of rows: as the bytes of their records compare.
+// The order of rows, as the bytes of their records compare, and whether two permissions are equal.
 ghost use mathlib.Core.Path.{_≡_};
+ghost use mathlib.Core.Bool.{_&&_};
 ghost use Rattle.model.specs.Things as things;
+ghost use Rattle.model.specs.Moves.{sameTime, samePermission};
 ghost use Rattle.tables.specs.View.{viewNode, NodeSound, viewAttribute, AttributeSound, viewPermission, PermissionSound, viewGrant, Apart};
 use crate::Attribute;
 use crate::Grant;
@@ -87,4 +89,22 @@ pub fn permission_before(a: Permission, b: Permission) -> bool
         return a.name < b.name;
     }
     grant_before(a.grant, b.grant)
+}
+
+// Whether both ends are equal.
+pub fn same_span(s: Span, u: Span) -> bool
+    ensures { λ r. ⌜ r ≡ (sameTime (s .first) (u .first) && sameTime (s .last) (u .last)) ⌝ }
+{
+    ((s.first <= u.first) & (u.first <= s.first)) & ((s.last <= u.last) & (u.last <= s.last))
+}
+
+// Whether every field of the two is equal.
+pub fn same_grant(g: Grant, h: Grant) -> bool
+    ensures { λ r. ⌜ r ≡ samePermission (viewGrant g) (viewGrant h) ⌝ }
+{
+    let times = same_span(g.span, h.span);
+    (g.role == h.role)
+        & ((g.action == h.action)
+            & ((g.user == h.user)
+                & (times & ((g.messages == h.messages) & (g.agreements == h.agreements)))))
 }
