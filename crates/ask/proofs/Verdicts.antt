@@ -25,9 +25,10 @@ use Rattle.tables.specs.declared.Dossier.{Dossier}
 use Rattle.tables.specs.View.{viewDossier, DossierFits}
 use Rattle.tables.proofs.Rows.{view-dossier}
 use Rattle.tables.proofs.Parts.{dossier-fits}
-use Rattle.decide.specs.View.{decisionOf, objectOwner}
-use Rattle.decide.specs.declared.Decision.{Decision}
-use Rattle.decide.specs.declared.Decision.the-variants.{Denied, Granted}
+use Rattle.grants.specs.View.{decisionOf}
+use Rattle.decide.specs.View.{objectOwner}
+use Rattle.grants.specs.declared.Decision.{Decision}
+use Rattle.grants.specs.declared.Decision.the-variants.{Denied, Granted}
 use Rattle.image.specs.declared.Loaded.{Loaded}
 use Rattle.image.specs.View.{loadedOf}
 use Rattle.ask.specs.declared.Verdict.{Verdict}

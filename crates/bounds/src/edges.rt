@@ -9,14 +9,14 @@ use crate::show;
 use crate::show::Time;
 use crate::show::text;
 use decide::Asked;
-use decide::Subject;
 use decide::change_node;
-use decide::cover_in;
 use decide::delegate;
 use decide::granted;
 use decide::own;
 use decide::read_attribute;
 use decide::read_node;
+use grants::Subject;
+use grants::cover_in;
 use path::Path;
 use tables::Dossier;
 use tables::Grant;
@@ -70,7 +70,7 @@ fn clash(g: Grant, h: Grant) {
     show::terms(g);
     text(b" and ");
     show::terms(h);
-    show::either(decide::clash(g, h), b": clash\n", b": no clash\n");
+    show::either(grants::clash(g, h), b": clash\n", b": no clash\n");
 }
 
 fn example6() {
@@ -86,7 +86,7 @@ fn matches(g: Grant, role: u8, user: u8, t: Time) {
     show::terms(g);
     text(b",");
     subject(s);
-    show::either(decide::matches(s, 1, g), b": match\n", b": no match\n");
+    show::either(grants::matches(s, 1, g), b": match\n", b": no match\n");
 }
 
 fn who(role: u8, user: u8, t: Time) -> Subject {

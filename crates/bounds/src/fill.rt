@@ -2,8 +2,8 @@
 ghost use Prim.Native.Nat.{_≤_, _<_};
 ghost use Rattle.path.specs.View.{PathSound};
 ghost use Rattle.tables.specs.View.{NodesSound, AttributesSound, PermissionsSound, DossierFits};
-use decide::clash;
-use decide::clash_in;
+use grants::clash;
+use grants::clash_in;
 use lookups::attribute_in;
 use lookups::owner_in;
 use path::Path;

@@ -1,7 +1,7 @@
 // What is written: numbers, paths, rows, decisions.
 ghost use Rattle.path.specs.View.{PathSound};
 ghost use Rattle.tables.specs.View.{NodesSound, AttributesSound, PermissionsSound};
-use decide::Decision;
+use grants::Decision;
 use libc::STDOUT_FILENO;
 use path::Path;
 use tables::Attribute;

@@ -7,8 +7,9 @@ use Rattle.model.specs.Run as run
 use Rattle.tables.specs.declared.Dossier.{Dossier}
 use Rattle.tables.specs.View.{viewDossier}
 use Rattle.decide.specs.declared.Asked.{Asked}
-use Rattle.decide.specs.declared.Decision.{Decision}
-use Rattle.decide.specs.View.{decisionOf, viewAsked}
+use Rattle.grants.specs.declared.Decision.{Decision}
+use Rattle.grants.specs.View.{decisionOf}
+use Rattle.decide.specs.View.{viewAsked}
 
 -- the decision, were n the number
 abbrev pub decided : Asked → Dossier → ℕ → Decision

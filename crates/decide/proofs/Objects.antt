@@ -21,9 +21,10 @@ use Rattle.tables.specs.declared.Owner.the-variants.{Nobody, User}
 use Rattle.tables.specs.declared.Found.{Found}
 use Rattle.tables.specs.declared.Found.the-variants.{Absent, Present}
 use Rattle.tables.specs.View.{ownerOf, foundOf}
-use Rattle.decide.specs.declared.Decision.{Decision}
-use Rattle.decide.specs.declared.Decision.the-variants.{Denied, Granted}
-use Rattle.decide.specs.View.{decisionOf, viewDecision, objectOwner}
+use Rattle.grants.specs.declared.Decision.{Decision}
+use Rattle.grants.specs.declared.Decision.the-variants.{Denied, Granted}
+use Rattle.grants.specs.View.{decisionOf, viewDecision}
+use Rattle.decide.specs.View.{objectOwner}
 
 -- nobody is no user: whoever owns is not nobody, whatever number stands in a blank row
 pub nobody-no-user : {u : ℕ} → Nobody ≡ User u → ⊥

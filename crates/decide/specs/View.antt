@@ -4,26 +4,10 @@ use lib.IntN.{pos}
 use Rattle.path.specs.View.{steps}
 use Rattle.model.specs.Things.{whole, Permission}
 use Rattle.model.specs.Decide as model
-use Rattle.model.specs.Decide.{Provisions}
 use Rattle.model.specs.Refusals.{Request}
 use Rattle.tables.specs.declared.Owner.{Owner}
 use Rattle.tables.specs.declared.Owner.the-variants.{Nobody, User}
-use Rattle.decide.specs.declared.Subject.{Subject}
 use Rattle.decide.specs.declared.Asked.{Asked}
-use Rattle.decide.specs.declared.Decision.{Decision}
-use Rattle.decide.specs.declared.Decision.the-variants.{Denied, Granted}
-
-abbrev pub viewSubject : Subject → model.Subject
-viewSubject s = record { role = s .role; user = s .user; time = s .time }
-
--- the meaning of a decision: none, or the provisions
-abbrev pub decisionOf : Option Provisions → Decision
-decisionOf none = Denied
-decisionOf (some p) = Granted (p .messages) (p .agreements)
-
-abbrev pub viewDecision : Decision → Option Provisions
-viewDecision Denied = none
-viewDecision (Granted m a) = some (record { messages = m; agreements = a })
 
 -- whose an object is
 abbrev pub objectOwner : Option model.Object → Owner

@@ -1,7 +1,7 @@
 // What the examples ask of a session: each call leaves a sound one.
 ghost use Rattle.state.specs.View.{SessionSound};
 use crate::show::answered;
-use decide::Subject;
+use grants::Subject;
 use path::RawPath;
 use session::start;
 use session::via_renew;

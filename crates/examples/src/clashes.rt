@@ -37,7 +37,7 @@ fn late() -> Span {
 
 // Of read permissions in role 1 on one object, for one user each or for any (0).
 fn clash(user: u8, span: Span, user2: u8, span2: Span) -> bool {
-    decide::clash(read(user, span), read(user2, span2))
+    grants::clash(read(user, span), read(user2, span2))
 }
 
 fn read(user: u8, span: Span) -> Grant {

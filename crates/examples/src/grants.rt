@@ -12,7 +12,7 @@ use crate::calls::request;
 use crate::calls::told;
 use crate::calls::top;
 use crate::show::text;
-use decide::Subject;
+use grants::Subject;
 use state::Session;
 
 // A time, in a struct.

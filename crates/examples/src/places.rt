@@ -15,7 +15,7 @@ use crate::calls::top;
 use crate::show;
 use crate::show::answered;
 use crate::show::text;
-use decide::Subject;
+use grants::Subject;
 use path::RawPath;
 use session::via_save;
 use state::Answer;

@@ -12,7 +12,7 @@ ghost use Rattle.image.specs.Records.{Breaks};
 ghost use Rattle.image.specs.Rows.{AttributesDone, PermissionsUpto};
 use crate::nodes::node_there;
 use crate::records::record_after;
-use decide::clash_in;
+use grants::clash_in;
 use lookups::attribute_in;
 use path::Path;
 use tables::Attributes;

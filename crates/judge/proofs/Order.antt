@@ -10,7 +10,7 @@ use Rattle.path.specs.Address.{valid}
 use Rattle.path.proofs.Structs.{no, both}
 use Rattle.model.specs.Decide.{Provisions}
 use Rattle.model.specs.Refusals.{Request, Found, Cached, Standing, badOperand, commonGood, ownGood, between, roleGood, userGood, timeGood, atRoot, absent, taken, wrongClipboard, missing, granted, uncovered, clashing, totals, overBound, provisions, unsigned, logFull, firstThat, refusal}
-use Rattle.decide.specs.View.{decisionOf, viewDecision}
+use Rattle.grants.specs.View.{decisionOf, viewDecision}
 use Rattle.judge.specs.declared.Judged.{Judged}
 use Rattle.judge.specs.declared.Judged.the-variants.{Refused, Allowed}
 use Rattle.judge.specs.View.{judgedOf}

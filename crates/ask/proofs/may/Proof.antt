@@ -6,7 +6,7 @@ use Rattle.model.specs.Decide.{given, readBy, changeBy}
 use Rattle.model.specs.Moves.{nodeAt, attributeObject}
 use Rattle.model.specs.Run.{asker}
 use Rattle.tables.specs.View.{viewDossier}
-use Rattle.decide.specs.View.{decisionOf}
+use Rattle.grants.specs.View.{decisionOf}
 use Rattle.decide.proofs.Objects.{both-joined}
 use Rattle.ask.specs.Verdict.{viewQuestion}
 use Rattle.ask.proofs.Verdicts.{asks-read, asks-change, asks-both}

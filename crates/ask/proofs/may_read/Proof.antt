@@ -4,7 +4,7 @@ use mathlib.Core.Path.{ap, _∙_}
 use Rattle.path.specs.View.{steps}
 use Rattle.model.specs.Decide.{given, readBy}
 use Rattle.tables.specs.View.{viewDossier}
-use Rattle.decide.specs.View.{viewSubject, decisionOf}
+use Rattle.grants.specs.View.{viewSubject, decisionOf}
 use Rattle.ask.proofs.Verdicts.{object-node, object-attribute}
 use Rattle.ask.proofs.may_read.Statement.{statement}
 use Rattle.ask.proofs.may_read.Tie as tie

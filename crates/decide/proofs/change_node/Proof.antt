@@ -4,7 +4,7 @@ use Rattle.path.specs.View.{steps}
 use Rattle.model.specs.Decide.{matched, changeBy}
 use Rattle.model.specs.Moves.{permissionsIn}
 use Rattle.tables.specs.View.{viewDossier}
-use Rattle.decide.specs.View.{viewSubject}
+use Rattle.grants.specs.View.{viewSubject}
 use Rattle.tables.proofs.Parts.{nodes-sound, permissions-sound}
 use Rattle.decide.proofs.Objects.{no-node, on-node, owning, not-owning, both-joined}
 use Rattle.decide.proofs.change_node.Statement.{statement}

@@ -3,7 +3,7 @@ use borrow.Author.Needs.{needs}
 use Rattle.path.specs.View.{steps}
 use Rattle.model.specs.Decide.{delegateBy}
 use Rattle.tables.specs.View.{viewDossier}
-use Rattle.decide.specs.View.{viewSubject}
+use Rattle.grants.specs.View.{viewSubject}
 use Rattle.tables.proofs.Parts.{permissions-sound}
 use Rattle.decide.proofs.Objects.{no-object, on-object}
 use Rattle.decide.proofs.delegate.Statement.{statement}

@@ -7,7 +7,7 @@ use Rattle.model.specs.Moves.{nodeAt, attributeObject}
 use Rattle.path.specs.Address.{parent}
 use Rattle.path.specs.View.{steps}
 use Rattle.tables.specs.View.{viewDossier}
-use Rattle.decide.specs.View.{viewSubject}
+use Rattle.grants.specs.View.{viewSubject}
 use Rattle.path.proofs.Structs.{parent-sound}
 use Rattle.decide.proofs.Objects.{both-joined, on-parent}
 use Rattle.decide.proofs.Numbers.{one, two}

@@ -2,7 +2,7 @@
 use borrow.Author.Needs.{needs}
 use mathlib.Core.Path.{sym, ap₂}
 use Rattle.model.specs.Decide as model
-use Rattle.decide.specs.View.{decisionOf, viewDecision}
+use Rattle.grants.specs.View.{decisionOf, viewDecision}
 use Rattle.decide.proofs.joined.Statement.{statement}
 use Rattle.decide.proofs.joined.Tie as tie
 

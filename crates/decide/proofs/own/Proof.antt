@@ -5,7 +5,7 @@ use mathlib.Core.Option.{none}
 use Rattle.path.specs.View.{steps}
 use Rattle.model.specs.Decide.{ownBy}
 use Rattle.tables.specs.View.{viewDossier}
-use Rattle.decide.specs.View.{viewSubject}
+use Rattle.grants.specs.View.{viewSubject}
 use Rattle.decide.proofs.Objects.{no-object, on-object, owning, not-owning}
 use Rattle.decide.proofs.own.Statement.{statement}
 use Rattle.decide.proofs.own.Tie as tie

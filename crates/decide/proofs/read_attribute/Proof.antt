@@ -3,7 +3,7 @@ use borrow.Author.Needs.{needs}
 use Rattle.path.specs.View.{steps}
 use Rattle.model.specs.Decide.{readBy}
 use Rattle.tables.specs.View.{viewDossier}
-use Rattle.decide.specs.View.{viewSubject}
+use Rattle.grants.specs.View.{viewSubject}
 use Rattle.tables.proofs.Parts.{attributes-sound, permissions-sound}
 use Rattle.decide.proofs.Objects.{no-attribute, on-attribute, owning, not-owning}
 use Rattle.decide.proofs.read_attribute.Statement.{statement}

@@ -8,8 +8,9 @@ use mir.ValLaws.{toZ-ofZ}
 use Rattle.model.specs.Refusals as refusals
 use Rattle.model.specs.Run.{found}
 use Rattle.tables.specs.View.{viewDossier}
-use Rattle.decide.specs.declared.Decision.{Decision}
-use Rattle.decide.specs.View.{decisionOf, viewAsked}
+use Rattle.grants.specs.declared.Decision.{Decision}
+use Rattle.grants.specs.View.{decisionOf}
+use Rattle.decide.specs.View.{viewAsked}
 use Rattle.judge.proofs.table.granted_to.Statement.{statement}
 use Rattle.judge.proofs.table.granted_to.Tie as tie
 

@@ -7,7 +7,7 @@ use lib.Dec.{ltb}
 use lib.ListN.{length}
 use Rattle.model.specs.Decide.{subset, members}
 use Rattle.model.specs.Refusals as refusals
-use Rattle.decide.specs.View.{viewDecision}
+use Rattle.grants.specs.View.{viewDecision}
 use Rattle.judge.specs.declared.Judged.the-variants.{Allowed}
 use Rattle.judge.specs.View.{viewPlaced, viewCache}
 use Rattle.judge.specs.Parts.{foundFor}

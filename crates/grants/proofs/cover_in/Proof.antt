@@ -1,8 +1,8 @@
--- `decide::cover_in` meets its contract: the search begins at the object's place and stops at the first permission of the object that covers. Assumes nothing.
+-- `grants::cover_in` meets its contract: the search begins at the object's place and stops at the first permission of the object that covers. Assumes nothing.
 use Prim.Native.Nat.{_+_, _-_, _/_, _<_, _≤_, ℕ}
-use Rattle.decide.proofs.cover_in.Statement.{statement}
-use Rattle.decide.proofs.cover_in.Tie as tie
-use Rattle.decide.specs.View.{viewSubject}
+use Rattle.grants.proofs.cover_in.Statement.{statement}
+use Rattle.grants.proofs.cover_in.Tie as tie
+use Rattle.grants.specs.View.{viewSubject}
 use Rattle.laws.proofs.Fill.{held-each, held-room}
 use Rattle.model.specs.Decide as model
 use Rattle.laws.proofs.Search.{place-most, row-side}

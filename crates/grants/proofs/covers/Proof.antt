@@ -1,9 +1,9 @@
--- `decide::covers` meets its contract: the delegator's rule, the users, the interval and the provisions. Assumes nothing.
+-- `grants::covers` meets its contract: the delegator's rule, the users, the interval and the provisions. Assumes nothing.
 use borrow.Author.Needs.{needs}
 use mathlib.Core.Bool.{_&&_}
 use Rattle.model.specs.Decide.{containsUsers}
-use Rattle.decide.proofs.covers.Statement.{statement}
-use Rattle.decide.proofs.covers.Tie as tie
+use Rattle.grants.proofs.covers.Statement.{statement}
+use Rattle.grants.proofs.covers.Tie as tie
 
 subset-requires : tie.Need-subset-requires
 subset-requires c κs = search needs

@@ -1,7 +1,7 @@
--- `decide::clash_in` meets its contract: the search begins at the object's place and stops at the first permission of the object that clashes. Assumes nothing.
+-- `grants::clash_in` meets its contract: the search begins at the object's place and stops at the first permission of the object that clashes. Assumes nothing.
 use Prim.Native.Nat.{_+_, _-_, _/_, _<_, _≤_, ℕ}
-use Rattle.decide.proofs.clash_in.Statement.{statement}
-use Rattle.decide.proofs.clash_in.Tie as tie
+use Rattle.grants.proofs.clash_in.Statement.{statement}
+use Rattle.grants.proofs.clash_in.Tie as tie
 use Rattle.laws.proofs.Fill.{held-each, held-room}
 use Rattle.model.specs.Decide as model
 use Rattle.laws.proofs.Search.{place-most, row-side}

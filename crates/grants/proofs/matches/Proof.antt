@@ -1,8 +1,8 @@
--- `decide::matches` meets its contract: role, action, user and time. Assumes nothing.
+-- `grants::matches` meets its contract: role, action, user and time. Assumes nothing.
 use borrow.Author.Needs.{needs}
 use mathlib.Core.Bool.{_&&_}
-use Rattle.decide.proofs.matches.Statement.{statement}
-use Rattle.decide.proofs.matches.Tie as tie
+use Rattle.grants.proofs.matches.Statement.{statement}
+use Rattle.grants.proofs.matches.Tie as tie
 
 concerns-requires : tie.Need-concerns-requires
 concerns-requires c κs = search needs

@@ -1,8 +1,8 @@
--- `decide::clash` meets its contract: alike, and a time in common. Assumes nothing.
+-- `grants::clash` meets its contract: alike, and a time in common. Assumes nothing.
 use borrow.Author.Needs.{needs}
 use mathlib.Core.Bool.{_&&_}
-use Rattle.decide.proofs.clash.Statement.{statement}
-use Rattle.decide.proofs.clash.Tie as tie
+use Rattle.grants.proofs.clash.Statement.{statement}
+use Rattle.grants.proofs.clash.Tie as tie
 
 alike-requires : tie.Need-alike-requires
 alike-requires c κs = search needs

@@ -1,8 +1,8 @@
--- `decide::matched` meets its contract: the search begins at the object's place and stops at the first permission of the object that matches. Assumes nothing.
+-- `grants::matched` meets its contract: the search begins at the object's place and stops at the first permission of the object that matches. Assumes nothing.
 use Prim.Native.Nat.{_+_, _-_, _/_, _<_, _≤_, ℕ}
-use Rattle.decide.proofs.matched.Statement.{statement}
-use Rattle.decide.proofs.matched.Tie as tie
-use Rattle.decide.specs.View.{decisionOf, viewSubject}
+use Rattle.grants.proofs.matched.Statement.{statement}
+use Rattle.grants.proofs.matched.Tie as tie
+use Rattle.grants.specs.View.{decisionOf, viewSubject}
 use Rattle.laws.proofs.Fill.{held-each, held-room}
 use Rattle.laws.specs.Slots.{pick}
 use Rattle.model.specs.Decide as model
