@@ -21,10 +21,11 @@ use Rattle.state.specs.View.{viewSignatures, viewSession, sessionOf, SessionSou
 use Rattle.state.specs.Calls.{steppedOf}
 use Rattle.state.proofs.Logs.{log-count}
 use Rattle.state.proofs.Sessions.{session-back, log-sound}
-use Rattle.judge.specs.declared.Cache.{Cache}
+use Rattle.refusals.specs.declared.Cache.{Cache}
 use Rattle.judge.specs.declared.Judged.{Judged}
 use Rattle.judge.specs.declared.Judged.the-variants as told
-use Rattle.judge.specs.View.{viewCache, standingOf, judgedOf}
+use Rattle.refusals.specs.View.{viewCache}
+use Rattle.judge.specs.View.{standingOf, judgedOf}
 use Rattle.twin.proofs.Refusal.{judged, outcome, refused-by}
 use Rattle.twin.proofs.Requests.{passed, request-common}
 use Rattle.state.specs.Parts.{numberedIn}

@@ -11,10 +11,10 @@ ghost use Rattle.tables.specs.View.{DossierSound, clipboardOf, dossierOf, viewD
 ghost use Rattle.edits.specs.Room.{AttributeRoom};
 ghost use Rattle.state.specs.View.{answerOf};
 use edits;
-use judge::Placed;
 use lookups::attribute_in;
 use lookups::children_in;
 use lookups::names_in;
+use refusals::Placed;
 use state::Answer;
 use state::Outcome;
 use state::plain;

@@ -14,7 +14,7 @@ use Rattle.grants.specs.View.{decisionOf, viewDecision}
 use Rattle.judge.specs.declared.Judged.{Judged}
 use Rattle.judge.specs.declared.Judged.the-variants.{Refused, Allowed}
 use Rattle.judge.specs.View.{judgedOf}
-use Rattle.judge.specs.Parts.{Passed}
+use Rattle.refusals.specs.Parts.{Passed}
 
 skip : {A : Type 0} (t : Bool) (x y : A) → t ≡ false → pick t x y ≡ y
 skip t x y e = rw e

@@ -7,8 +7,9 @@ use Rattle.model.specs.Refusals as refusals
 use Rattle.model.specs.Run.{found}
 use Rattle.tables.specs.View.{viewDossier}
 use Rattle.state.specs.View.{viewRequest, viewSignatures}
-use Rattle.judge.specs.View.{viewCache, standingOf}
-use Rattle.judge.specs.Parts.{judgement}
+use Rattle.refusals.specs.View.{viewCache}
+use Rattle.judge.specs.View.{standingOf}
+use Rattle.judge.specs.View.{judgement}
 use Rattle.judge.proofs.Order.{Good, good, refused-1, verdict}
 use Rattle.judge.proofs.table.judged.Statement.{statement}
 use Rattle.judge.proofs.table.judged.Tie as tie

@@ -9,8 +9,8 @@ use Rattle.model.specs.Decide.{subset, members}
 use Rattle.model.specs.Refusals as refusals
 use Rattle.grants.specs.View.{viewDecision}
 use Rattle.judge.specs.declared.Judged.the-variants.{Allowed}
-use Rattle.judge.specs.View.{viewPlaced, viewCache}
-use Rattle.judge.specs.Parts.{foundFor}
+use Rattle.refusals.specs.View.{viewPlaced, viewCache}
+use Rattle.refusals.specs.Parts.{foundFor}
 use Rattle.judge.proofs.Order.{decision-seen, refused-7, refused-8, refused-9, refused-10, refused-11, allowed}
 use Rattle.judge.proofs.table.judged_granted.Statement.{statement}
 use Rattle.judge.proofs.table.judged_granted.Tie as tie

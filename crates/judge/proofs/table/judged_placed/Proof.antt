@@ -3,8 +3,8 @@ use mathlib.Core.Path.{_≡_, sym, ap, _∙_}
 use borrow.Author.Needs.{needs}
 use Rattle.model.specs.Refusals as refusals
 use Rattle.grants.specs.View.{viewDecision}
-use Rattle.judge.specs.View.{viewPlaced, viewCache}
-use Rattle.judge.specs.Parts.{foundFor, Passed}
+use Rattle.refusals.specs.View.{viewPlaced, viewCache}
+use Rattle.refusals.specs.Parts.{foundFor, Passed}
 use Rattle.judge.proofs.Order.{decision-seen, refused-2, refused-3, refused-4, refused-5, refused-6}
 use Rattle.judge.proofs.table.judged_placed.Statement.{statement}
 use Rattle.judge.proofs.table.judged_placed.Tie as tie

@@ -1,0 +1,4 @@
+pub mod Several
+pub mod Objects
+pub mod Totals
+pub mod Clipboards

@@ -1,0 +1,186 @@
+// Refusals 7 to 11: what may be handed on, what clashes, and what there is room for.
+ghost use mathlib.Core.Path.{_≡_};
+ghost use mathlib.Core.Bool.{not};
+ghost use Prim.Native.Nat.{_+_, _≤_};
+ghost use lib.Dec.{ltb};
+ghost use lib.ListN.{length};
+ghost use Rattle.path.specs.View.{PathSound};
+ghost use Rattle.model.specs.Decide.{coverAny, clashAny, subset, members};
+ghost use Rattle.model.specs.Refusals as refusals;
+ghost use Rattle.model.specs.Run as run;
+ghost use Rattle.tables.specs.View.{viewGrant, viewDossier, DossierFits};
+ghost use Rattle.refusals.specs.View.{viewPlaced, viewCache, CacheSound};
+ghost use Rattle.refusals.specs.Parts.{objectOf, totalsOf};
+use crate::Cache;
+use crate::Placed;
+use decide::owner_of;
+use grants::Subject;
+use grants::clash_in;
+use grants::cover_in;
+use grants::subset;
+use lookups::attributes_over;
+use lookups::children_in;
+use lookups::children_over;
+use lookups::count_on;
+use lookups::depth_over;
+use lookups::nodes_over;
+use lookups::on_node_over;
+use lookups::permissions_over;
+use path::parent_of;
+use path::size;
+use state::entries::message_count;
+use tables::Dossier;
+use tables::Owner;
+
+// ---- the permissions of the object
+
+fn is_covered(d: Dossier, q: Placed) -> bool
+    requires { ⌜ DossierFits d × PathSound (q .path) ⌝ }
+    ensures { λ b. ⌜ b ≡ coverAny (refusals.subject (viewPlaced q)) (viewGrant (q .permission)) (refusals.permissionsOf (objectOf d q)) ⌝ }
+{
+    let s = Subject {
+        role: q.role,
+        user: q.user,
+        time: q.time,
+    };
+    match owner_of(d, q.path, q.name) {
+        Owner::Nobody => false,
+        Owner::User(_) => cover_in(d.permissions, q.path, q.name, s, q.permission),
+    }
+}
+
+// Request 16: nothing covers the delegated permission.
+pub fn uncovered(d: Dossier, q: Placed) -> bool
+    requires { ⌜ DossierFits d × PathSound (q .path) ⌝ }
+    ensures { λ b. ⌜ b ≡ refusals.uncovered (viewPlaced q) (run.found (viewPlaced q) (viewDossier d)) ⌝ }
+{
+    if q.number == 16 {
+        return !is_covered(d, q);
+    }
+    false
+}
+
+fn has_clash(d: Dossier, q: Placed) -> bool
+    requires { ⌜ DossierFits d × PathSound (q .path) ⌝ }
+    ensures { λ b. ⌜ b ≡ clashAny (viewGrant (q .permission)) (refusals.permissionsOf (objectOf d q)) ⌝ }
+{
+    match owner_of(d, q.path, q.name) {
+        Owner::Nobody => false,
+        Owner::User(_) => clash_in(d.permissions, q.path, q.name, q.permission),
+    }
+}
+
+// Request 14 or 16: a permission of the object clashes.
+pub fn clashing(d: Dossier, q: Placed) -> bool
+    requires { ⌜ DossierFits d × PathSound (q .path) ⌝ }
+    ensures { λ b. ⌜ b ≡ refusals.clashing (viewPlaced q) (run.found (viewPlaced q) (viewDossier d)) ⌝ }
+{
+    let n = q.number;
+    if (n == 14) | (n == 16) {
+        return has_clash(d, q);
+    }
+    false
+}
+
+// ---- bounds, each by itself
+
+fn nodes_full(d: Dossier, c: Cache, q: Placed) -> bool
+    requires { ⌜ DossierFits d × CacheSound c ⌝ }
+    ensures { λ b. ⌜ b ≡ refusals.nodesOver (totalsOf d c q .nodes) ⌝ }
+{
+    let number = q.number;
+    match number {
+        3 => nodes_over(d.nodes.count + 1),
+        7 => nodes_over(d.nodes.count + c.nodes),
+        _ => false,
+    }
+}
+
+fn depth_full(d: Dossier, c: Cache, q: Placed) -> bool
+    requires { ⌜ CacheSound c × PathSound (q .path) ⌝ }
+    ensures { λ b. ⌜ b ≡ refusals.depthOver (totalsOf d c q .depth) ⌝ }
+{
+    let number = q.number;
+    match number {
+        3 => depth_over(size(q.path)),
+        7 => depth_over(size(q.path) + c.height),
+        _ => false,
+    }
+}
+
+fn children_full(d: Dossier, c: Cache, q: Placed) -> bool
+    requires { ⌜ DossierFits d × PathSound (q .path) ⌝ }
+    ensures { λ b. ⌜ b ≡ refusals.childrenOver (totalsOf d c q .children) ⌝ }
+{
+    let number = q.number;
+    match number {
+        3 | 7 => children_over(children_in(d.nodes, parent_of(q.path)) + 1),
+        _ => false,
+    }
+}
+
+fn attributes_full(d: Dossier, c: Cache, q: Placed) -> bool
+    requires { ⌜ DossierFits d × CacheSound c ⌝ }
+    ensures { λ b. ⌜ b ≡ refusals.attributesOver (totalsOf d c q .attributes) ⌝ }
+{
+    let number = q.number;
+    match number {
+        7 => attributes_over(d.attributes.count + c.attributes),
+        8 | 13 => attributes_over(d.attributes.count + 1),
+        _ => false,
+    }
+}
+
+fn on_node_full(d: Dossier, c: Cache, q: Placed) -> bool
+    requires { ⌜ DossierFits d × PathSound (q .path) ⌝ }
+    ensures { λ b. ⌜ b ≡ refusals.onNodeOver (totalsOf d c q .onNode) ⌝ }
+{
+    let number = q.number;
+    match number {
+        8 | 13 => on_node_over(count_on(d.attributes, q.path) + 1),
+        14 | 16 => on_node_over(count_on(d.attributes, q.path)),
+        _ => false,
+    }
+}
+
+fn permissions_full(d: Dossier, c: Cache, q: Placed) -> bool
+    requires { ⌜ DossierFits d × CacheSound c ⌝ }
+    ensures { λ b. ⌜ b ≡ refusals.permissionsOver (totalsOf d c q .permissions) ⌝ }
+{
+    let number = q.number;
+    match number {
+        7 | 13 => permissions_over(d.permissions.count + c.permissions),
+        14 | 16 => permissions_over(d.permissions.count + 1),
+        _ => false,
+    }
+}
+
+pub fn over_bound(d: Dossier, c: Cache, q: Placed) -> bool
+    requires { ⌜ DossierFits d × CacheSound c × PathSound (q .path) ⌝ }
+    ensures { λ b. ⌜ b ≡ refusals.overBound (refusals.totals (viewPlaced q) (run.found (viewPlaced q) (viewDossier d)) (viewCache c)) ⌝ }
+{
+    let nodes = nodes_full(d, c, q);
+    let depth = depth_full(d, c, q);
+    let children = children_full(d, c, q);
+    let attributes = attributes_full(d, c, q);
+    let on_node = on_node_full(d, c, q);
+    let permissions = permissions_full(d, c, q);
+    nodes | (depth | (children | (attributes | (on_node | permissions))))
+}
+
+// ---- signatures and the log
+
+// An agreement is unsigned.
+pub fn unsigned(agreements: u32, signed: u32) -> bool
+    ensures { λ b. ⌜ b ≡ not (subset agreements signed) ⌝ }
+{
+    !subset(agreements, signed)
+}
+
+// The messages don't all fit.
+pub fn log_full(messages: u32, entries: usize) -> bool
+    requires { ⌜ entries ≤ 256 ⌝ }
+    ensures { λ b. ⌜ b ≡ ltb 256 (entries + length (members messages)) ⌝ }
+{
+    256 < entries + message_count(messages)
+}
