@@ -1,17 +1,15 @@
 // The editor as a program: calls, one to a line, from the file named as its argument or from standard input; each is made on one session
 // and answered by a line.
 use crate::answering::answer_line;
-use crate::answering::fresh;
 use crate::reading::fresh_reader;
 use crate::reading::next_line;
 use libc::STDIN_FILENO;
-use lines::words::is_word;
+use serve::fresh;
+use show::helping::help;
+use words::is_word;
 
 mod answering;
-mod files;
-mod helping;
 mod reading;
-mod showing;
 
 // A proved loop has to end, and nothing says that a file does: so the lines are counted, up to a number that no run reaches.
 fn answer_all(fd: i32) {
@@ -55,7 +53,7 @@ fn main() {
         return;
     }
     if is_word(&path[..n], b"--help") {
-        helping::help();
+        help();
         return;
     }
     answer_file(&path[..n]);

@@ -2,33 +2,33 @@
 //
 //   # NUMBER  d D  o OWNER  r ROLE  u USER  t TIME  p PATH  n NAME  v VALUE  i IMAGE  f FILE  a ACTION  g AGREEMENT  s [ROOM]
 //   R ROLE  A ACTION  U USER  F FIRST  L LAST  M MESSAGES  G AGREEMENTS of a permission
-use crate::numbers::Byte;
-use crate::numbers::Long;
-use crate::numbers::Moment;
-use crate::numbers::Number;
-use crate::numbers::Short;
-use crate::numbers::byte_in;
-use crate::numbers::long_in;
-use crate::numbers::number_in;
-use crate::numbers::short_in;
-use crate::numbers::time_in;
-use crate::paths::path_in;
-use crate::paths::raw_root;
-use crate::values::Valued;
-use crate::values::value_in;
 use crate::whys::TOO_FEW;
 use crate::whys::TOO_MANY;
 use crate::whys::UNKNOWN;
-use crate::words::Word;
-use crate::words::Words;
-use crate::words::is_word;
-use crate::words::part_end;
-use crate::words::word_of;
-use crate::words::words_in;
 use state::Request;
 use tables::Grant;
 use tables::Span;
 use tables::Value;
+use words::Word;
+use words::Words;
+use words::is_word;
+use words::numbers::Byte;
+use words::numbers::Long;
+use words::numbers::Moment;
+use words::numbers::Number;
+use words::numbers::Short;
+use words::numbers::byte_in;
+use words::numbers::long_in;
+use words::numbers::number_in;
+use words::numbers::short_in;
+use words::numbers::time_in;
+use words::part_end;
+use words::paths::path_in;
+use words::paths::raw_root;
+use words::values::Valued;
+use words::values::value_in;
+use words::word_of;
+use words::words_in;
 
 // Kinds 1 to 16 are the requests of that number by name.
 pub const BAD: u8 = 0;
