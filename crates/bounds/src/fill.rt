@@ -69,7 +69,7 @@ fn with_node(t: Nodes, p: Path, owner: u8) -> Nodes
                 path: p,
                 owner: owner,
             };
-            moves::nodes::insert(a, t)
+            nodes::insert(a, t)
         }
         Owner::User(_) => t,
     }
@@ -141,7 +141,7 @@ fn with_attribute(t: Attributes, p: Path, name: u16, owner: u8, value: Value) ->
                 owner: owner,
                 value: value,
             };
-            moves::attributes::insert(a, t)
+            attributes::insert(a, t)
         }
         Found::Present(_, _) => t,
     }
@@ -226,7 +226,7 @@ fn with_permission(t: Permissions, p: Path, name: u16, g: Grant) -> Permissions
         name: name,
         grant: g,
     };
-    moves::permissions::insert(a, t)
+    permissions::insert(a, t)
 }
 
 // Any user, or another one in each role.

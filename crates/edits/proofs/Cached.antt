@@ -26,7 +26,7 @@ use Rattle.tables.specs.declared.Clipboard.{Clipboard}
 use Rattle.tables.specs.View.{viewAttribute, attributesOf, noAttribute, viewPermissions, permissionsOf, PermissionsSound, clipboardOf, ClipboardSound}
 use Rattle.tables.proofs.Rows.{view-attribute, view-permissions}
 use Rattle.moves.specs.Room.{OneObject, NoObject, grantIn}
-use Rattle.moves.proofs.Kept.{object-less}
+use Rattle.permissions.proofs.Objects.{object-less}
 
 -- ---- the clipboard's kind says what it holds
 pub record Holds (c : Clipboard) : Type 0 where

@@ -12,7 +12,7 @@ use Rattle.tables.specs.declared.Found.{Found}
 use Rattle.tables.specs.declared.Found.the-variants.{Absent, Present}
 use Rattle.tables.specs.View.{viewValue, foundOf}
 use Rattle.tables.proofs.Rows.{value-back}
-use Rattle.moves.proofs.Changed.{attribute-found}
+use Rattle.attributes.proofs.Values.{attribute-found}
 use Rattle.state.specs.declared.Outcome.the-variants.{Done, ValueRead}
 use Rattle.state.specs.declared.Answer.{Answer}
 use Rattle.state.specs.View.{plainOf, answerOf}

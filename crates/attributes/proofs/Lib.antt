@@ -1,0 +1,3 @@
+pub mod Stored
+pub mod Fresh
+pub mod Values
