@@ -8,7 +8,7 @@ use tables::Permissions;
 
 mod edges;
 mod fill;
-mod lookups;
+mod searches;
 mod show;
 
 fn main() {
@@ -21,7 +21,7 @@ fn main() {
     show::nodes(n);
     show::attributes(a);
     show::permissions(q);
-    lookups::lookups(n, a, q);
+    searches::lookups(n, a, q);
     edges::edges(fill::whole(n, a, q), q);
 }
 

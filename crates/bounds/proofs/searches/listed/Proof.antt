@@ -1,8 +1,8 @@
--- `bounds::lookups::listed` is safe: the index stays within the array. Assumes nothing.
+-- `bounds::searches::listed` is safe: the index stays within the array. Assumes nothing.
 use borrow.Author.Needs.{needs}
 use Prim.Native.Nat.{_≤_, _-_}
-use Rattle.bounds.proofs.lookups.listed.Statement.{statement}
-use Rattle.bounds.proofs.lookups.listed.Tie as tie
+use Rattle.bounds.proofs.searches.listed.Statement.{statement}
+use Rattle.bounds.proofs.searches.listed.Tie as tie
 
 abbrev Inv-loop : tie.InvT-loop
 Inv-loop l n i₀ t5 i = i ≤ 16
