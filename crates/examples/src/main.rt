@@ -3,7 +3,7 @@
 mod addresses;
 mod calls;
 mod clashes;
-mod grants;
+mod granted;
 mod places;
 mod room;
 mod show;
@@ -14,11 +14,11 @@ fn main() {
     addresses::example3();
     clashes::example4();
     clashes::example5();
-    grants::example6();
-    grants::example7();
+    granted::example6();
+    granted::example7();
     places::example8();
     places::example9();
-    grants::example10();
+    granted::example10();
     room::example11();
     room::example12();
     places::example13();
