@@ -1,6 +1,6 @@
 // A line's call is made on the session. The session goes through every call by value.
 ghost use Rattle.state.specs.View.{SessionSound};
-use crate::reading::Reader;
+use files::reading::Reader;
 use lines::calls::Call;
 use lines::calls::call_in;
 use lines::whys::TOO_LONG;

@@ -1,15 +1,14 @@
 // The editor as a program: calls, one to a line, from the file named as its argument or from standard input; each is made on one session
 // and answered by a line.
 use crate::answering::answer_line;
-use crate::reading::fresh_reader;
-use crate::reading::next_line;
+use files::reading::fresh_reader;
+use files::reading::next_line;
 use libc::STDIN_FILENO;
 use serve::fresh;
 use show::helping::help;
 use words::is_word;
 
 mod answering;
-mod reading;
 
 // A proved loop has to end, and nothing says that a file does: so the lines are counted, up to a number that no run reaches.
 fn answer_all(fd: i32) {

@@ -1,12 +1,12 @@
 // Calls made on a session, each with its answer written. The session goes through every call by value.
 ghost use Rattle.state.specs.View.{SessionSound};
 ghost use Rattle.io.specs.Counts.{Counts};
-use crate::files::image_in;
-use crate::files::stored;
 use answers::put_answer;
 use answers::put_asked;
 use answers::put_stored;
 use ask::dossier_ask;
+use files::image_in;
+use files::stored;
 use lines::calls::Call;
 use lines::whys::NOT_WRITTEN;
 use lines::whys::put_bad;
@@ -29,8 +29,6 @@ use state::Stepped;
 use state::plain;
 use words::Word;
 use words::word_of;
-
-mod files;
 
 // ---- what is written
 

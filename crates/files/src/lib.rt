@@ -1,4 +1,4 @@
-// Images from files, and images to files.
+// Images from files and to files; the lines of a script stand in `reading`.
 use answers::put_text;
 use lines::whys::NOT_READ;
 use words::Word;
@@ -6,6 +6,8 @@ use words::hex::Count;
 use words::hex::hex_in;
 use words::starts_with;
 use words::word_of;
+
+pub mod reading;
 
 // How many bytes an image has; `why` is not 0 where it is none.
 pub struct Image {

@@ -1,10 +1,10 @@
--- `dossier::reading::take_piece` is safe and ends. Assumes nothing.
+-- `files::reading::take_piece` is safe and ends. Assumes nothing.
 use mathlib.Core.Path.{_≡_}
 use Prim.Native.Nat.{_-_}
 use lib.ListN.{length}
 use borrow.Author.Needs.{needs}
-use Rattle.dossier.proofs.reading.take_piece.Statement.{statement}
-use Rattle.dossier.proofs.reading.take_piece.Tie as tie
+use Rattle.files.proofs.reading.take_piece.Statement.{statement}
+use Rattle.files.proofs.reading.take_piece.Tie as tie
 
 abbrev Inv-loop : tie.InvT-loop
 Inv-loop line₀ piece got q₀ at₀ line q at = length line ≡ length line₀

@@ -1,9 +1,9 @@
--- `dossier::reading::next_line` is safe and ends. Assumes nothing.
+-- `files::reading::next_line` is safe and ends. Assumes nothing.
 use mathlib.Core.Path.{_≡_}
 use lib.ListN.{length}
 use borrow.Author.Needs.{needs}
-use Rattle.dossier.proofs.reading.next_line.Statement.{statement}
-use Rattle.dossier.proofs.reading.next_line.Tie as tie
+use Rattle.files.proofs.reading.next_line.Statement.{statement}
+use Rattle.files.proofs.reading.next_line.Tie as tie
 
 abbrev Inv-loop : tie.InvT-loop
 Inv-loop fd line₀ piece₀ q₀ turns₀ line piece q turns = (length line ≡ length line₀) × (length piece ≡ length piece₀)
