@@ -1,4 +1,2 @@
 pub mod Bits
 pub mod Parts
-pub mod Rows
-pub mod Saved

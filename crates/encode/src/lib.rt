@@ -1,7 +1,7 @@
-// A dossier as bytes: numbers, records of forty bytes, and the saving of a dossier or a clipboard into a lent buffer.
+// Numbers and records of forty bytes into a lent buffer.
 ghost use mathlib.Core.Path.{_≡_};
-ghost use mathlib.Core.List.{[], _∷_, _++_, map};
-ghost use Prim.Native.Nat.{_+_, _*_, _≤_};
+ghost use mathlib.Core.List.{[], _∷_, _++_};
+ghost use Prim.Native.Nat.{_+_, _≤_};
 ghost use lib.ListN.{length, replicate};
 ghost use lib.Ieee.{toBits, binary32};
 ghost use mir.Syntax.{w64};
@@ -9,20 +9,14 @@ ghost use mir.Val.{ofZ};
 ghost use Rattle.laws.specs.Slots.{put};
 ghost use Rattle.path.specs.View.{steps, PathSound};
 ghost use Rattle.model.specs.Image as images;
-ghost use Rattle.model.specs.Image.{bytes2, bytes4, bytes8, front, valueKind, valueBits, nodeRecord, attributeRecord, permissionRecord, bytesOf};
-ghost use Rattle.tables.specs.View.{viewValue, viewNode, viewAttribute, viewPermission, viewNodes, viewAttributes, viewPermissions, viewDossier, viewClipboard, NodeSound, AttributeSound, PermissionSound, NodesSound, AttributesSound, PermissionsSound, DossierFits, ClipboardSound};
-ghost use Rattle.encode.specs.Saved.{writtenOf, leftIn};
+ghost use Rattle.model.specs.Image.{bytes2, bytes4, bytes8, front, valueKind, valueBits, nodeRecord, attributeRecord, permissionRecord};
+ghost use Rattle.tables.specs.View.{viewValue, viewNode, viewAttribute, viewPermission, NodeSound, AttributeSound, PermissionSound};
 use path::Path;
 use path::put_path;
 use tables::Attribute;
-use tables::Attributes;
-use tables::Clipboard;
-use tables::Dossier;
 use tables::Grant;
 use tables::Node;
-use tables::Nodes;
 use tables::Permission;
-use tables::Permissions;
 use tables::Span;
 use tables::Value;
 
@@ -193,81 +187,3 @@ fn put_span(out: &mut [u8], at: usize, s: Span)
 }
 
 // ---- tables, a record behind the other, from at on
-
-fn put_nodes(t: Nodes, out: &mut [u8], at: usize)
-    requires { ⌜ NodesSound t × (at + 40 * t .count ≤ length (now out)) ⌝ }
-    ensures { λ r. ⌜ now (out .exit) ≡ put (now (out .entry)) at (bytesOf (map nodeRecord (viewNodes t))) ⌝ }
-{
-    let n = t.count;
-    let mut k = at;
-    let mut i: usize = 0;
-    while i < n {
-        put_node(out, k, t.rows[i]);
-        k += 40;
-        i += 1;
-    }
-}
-
-fn put_attributes(t: Attributes, out: &mut [u8], at: usize)
-    requires { ⌜ AttributesSound t × (at + 40 * t .count ≤ length (now out)) ⌝ }
-    ensures { λ r. ⌜ now (out .exit) ≡ put (now (out .entry)) at (bytesOf (map attributeRecord (viewAttributes t))) ⌝ }
-{
-    let n = t.count;
-    let mut k = at;
-    let mut i: usize = 0;
-    while i < n {
-        put_attribute(out, k, t.rows[i]);
-        k += 40;
-        i += 1;
-    }
-}
-
-fn put_permissions(t: Permissions, out: &mut [u8], at: usize)
-    requires { ⌜ PermissionsSound t × (at + 40 * t .count ≤ length (now out)) ⌝ }
-    ensures { λ r. ⌜ now (out .exit) ≡ put (now (out .entry)) at (bytesOf (map permissionRecord (viewPermissions t))) ⌝ }
-{
-    let n = t.count;
-    let mut k = at;
-    let mut i: usize = 0;
-    while i < n {
-        put_permission(out, k, t.rows[i]);
-        k += 40;
-        i += 1;
-    }
-}
-
-// ---- all or nothing
-
-pub enum Written {
-    Short,
-    Bytes(usize),
-}
-
-// Saves the dossier, a record for each row; a buffer that is too short for all of them stays as it is.
-pub fn save(d: Dossier, out: &mut [u8]) -> Written
-    requires { ⌜ DossierFits d ⌝ }
-    ensures { λ r. ⌜ (r ≡ writtenOf (images.save (viewDossier d)) (now (out .entry))) × (now (out .exit) ≡ leftIn (images.save (viewDossier d)) (now (out .entry))) ⌝ }
-{
-    let nodes = d.nodes;
-    let attributes = d.attributes;
-    let permissions = d.permissions;
-    let past_nodes = 40 * nodes.count;
-    let past_attributes = past_nodes + 40 * attributes.count;
-    let need = past_attributes + 40 * permissions.count;
-    if out.len() < need {
-        return Written::Short;
-    }
-    put_nodes(nodes, out, 0);
-    put_attributes(attributes, out, past_nodes);
-    put_permissions(permissions, out, past_attributes);
-    Written::Bytes(need)
-}
-
-// Saves what is on the clipboard: a cached attribute is held as its rows, and no rows are no bytes.
-pub fn save_clipboard(c: Clipboard, out: &mut [u8]) -> Written
-    requires { ⌜ ClipboardSound c ⌝ }
-    ensures { λ r. ⌜ (r ≡ writtenOf (images.saveClipboard (viewClipboard c)) (now (out .entry))) × (now (out .exit) ≡ leftIn (images.saveClipboard (viewClipboard c)) (now (out .entry))) ⌝ }
-{
-    let d = c.held;
-    save(d, out)
-}

@@ -1,4 +1,4 @@
--- The loader and the saver undo each other: what `encode::save` wrote `load` reads as the same dossier, and what `load` accepted `save` writes as the same bytes. In the words of their contracts. Assumes nothing.
+-- The loader and the saver undo each other: what `save::save` wrote `load` reads as the same dossier, and what `load` accepted `save` writes as the same bytes. In the words of their contracts. Assumes nothing.
 use mathlib.Core.Path.{_≡_, refl, sym, ap, subst, _∙_}
 use mathlib.Core.Bool.{Bool, true, false}
 use mathlib.Core.List.{List}
@@ -19,8 +19,8 @@ use Rattle.roundtrip.proofs.SaveLoad.{load-sound, save-load}
 use Rattle.tables.specs.declared.Dossier.{Dossier}
 use Rattle.tables.specs.View.{viewDossier, dossierOf, DossierSound}
 use Rattle.tables.proofs.Rows.{view-dossier}
-use Rattle.encode.specs.declared.Written.the-variants.{Short, Bytes}
-use Rattle.encode.specs.Saved.{writtenOf, leftIn}
+use Rattle.save.specs.declared.Written.the-variants.{Short, Bytes}
+use Rattle.save.specs.Saved.{writtenOf, leftIn}
 use Rattle.image.specs.declared.Loaded.{Loaded}
 use Rattle.image.specs.View.{loadedOf}
 

@@ -2,8 +2,8 @@
 ghost use mathlib.Core.Path.{_≡_};
 ghost use lib.ListN.{length};
 ghost use Rattle.tables.specs.View.{DossierFits};
-use encode::Written;
 use image::Loaded;
+use save::Written;
 use tables::Dossier;
 
 const PATTERN: u8 = 0xa5;
@@ -55,7 +55,7 @@ pub fn saves_as(d: Dossier, image: &[u8]) -> bool
     requires { ⌜ DossierFits d ⌝ }
 {
     let mut out = buffer();
-    let n = count(encode::save(d, &mut out));
+    let n = count(save::save(d, &mut out));
     (n == image.len()) & (starts_with(&out, image) & is_kept(&out, n))
 }
 
@@ -74,7 +74,7 @@ fn is_short_of(d: Dossier, room: usize, out: &mut [u8]) -> bool
     if out.len() < room {
         return false;
     }
-    is_short(encode::save(d, &mut out[..room]))
+    is_short(save::save(d, &mut out[..room]))
 }
 
 // Whether a save into so many bytes is refused, and leaves the buffer as it was.

@@ -3,7 +3,7 @@ ghost use mathlib.Core.Path.{_≡_};
 ghost use Rattle.model.specs.Run as run;
 ghost use Rattle.tables.specs.View.{viewClipboard, ClipboardSound};
 ghost use Rattle.refusals.specs.View.{viewCache, CacheSound};
-use lookups::deepest_in;
+use counts::deepest_in;
 use path::Path;
 use tables::Clipboard;
 use tables::Grant;

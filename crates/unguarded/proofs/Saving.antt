@@ -13,9 +13,9 @@ use Rattle.model.specs.Run as run
 use Rattle.model.specs.Run.{Reply, step, dossier, dossierGood, short, writes}
 use Rattle.tables.specs.declared.Clipboard.{Clipboard}
 use Rattle.tables.specs.View.{viewClipboard}
-use Rattle.encode.specs.declared.Written.{Written}
-use Rattle.encode.specs.declared.Written.the-variants.{Short, Bytes}
-use Rattle.encode.specs.Saved.{writtenOf, leftIn}
+use Rattle.save.specs.declared.Written.{Written}
+use Rattle.save.specs.declared.Written.the-variants.{Short, Bytes}
+use Rattle.save.specs.Saved.{writtenOf, leftIn}
 use Rattle.state.specs.declared.Outcome.the-variants.{Refused}
 use Rattle.state.specs.View.{plainOf, answerOf}
 use Rattle.state.specs.Calls.{answerIn, bufferIn, onlyBuffer, havingClipboard}

@@ -1,6 +1,6 @@
 -- What is answered to the calls without a guard.
-use Rattle.encode.specs.declared.Written.{Written}
-use Rattle.encode.specs.declared.Written.the-variants.{Short, Bytes}
+use Rattle.save.specs.declared.Written.{Written}
+use Rattle.save.specs.declared.Written.the-variants.{Short, Bytes}
 use Rattle.state.specs.declared.Outcome.the-variants.{Wrote, Refused}
 use Rattle.state.specs.declared.Answer.{Answer}
 use Rattle.state.specs.View.{plainOf}

@@ -9,10 +9,10 @@ ghost use Rattle.state.specs.Calls.{answerIn, bufferIn, dossiersAfter, having, 
 ghost use Rattle.unguarded.specs.Calls.{answerFor};
 use edits::bare;
 use edits::empty_clipboard;
-use encode::Written;
-use encode::save;
-use encode::save_clipboard;
 use image::load;
+use save::Written;
+use save::save;
+use save::save_clipboard;
 use state::Agreements;
 use state::Answer;
 use state::DossiersOut;
