@@ -35,7 +35,8 @@ enum {
                                 neither 1 nor 2 */
     DOSSIER_ABSENT = 3,      /* no such node, or no such attribute on it */
     DOSSIER_NOT_GRANTED = 6, /* the user neither owns what is needed nor has permission now */
-    DOSSIER_NO_ROOM = 9,     /* granted, but out_len is below 8 */
+    DOSSIER_NO_ROOM = 9,     /* granted, but out_len is below 8; never a bound of a dossier: an image beyond one is 12,
+                                and what a request would overfill is told by 13 to 17, which ask does not give */
     DOSSIER_BAD_IMAGE = 12   /* image_len is 0, not a multiple of 40 or above 17,920, or a record breaks a rule */
 };
 

@@ -77,7 +77,7 @@ enum refusal plain_add_attribute(struct session *s, const struct request *r)
     if (!may_change_node(&c))
         return NOT_GRANTED;
     if (!has_room_for_attribute(c.dossier, c.node))
-        return NO_ROOM;
+        return ATTRIBUTES_FULL;
     enum refusal refused = meet(s, &c);
     if (refused == GRANTED)
         insert_attribute(c.dossier, c.object, (struct attribute){r->user, r->value});
@@ -161,9 +161,10 @@ enum refusal plain_paste_attribute(struct session *s, const struct request *r)
         return WRONG_CLIPBOARD;
     if (!may_change_node(&c))
         return NOT_GRANTED;
-    if (!has_room_for_attribute(c.dossier, c.node) ||
-        c.dossier->permissions.count + held->permissions.count > MAX_PERMISSIONS)
-        return NO_ROOM;
+    if (!has_room_for_attribute(c.dossier, c.node))
+        return ATTRIBUTES_FULL;
+    if (c.dossier->permissions.count + held->permissions.count > MAX_PERMISSIONS)
+        return PERMISSIONS_FULL;
     enum refusal refused = meet(s, &c);
     if (refused == GRANTED)
         paste_attribute(c.dossier, held, c.object);

@@ -48,8 +48,10 @@ enum refusal plain_add_node(struct session *s, const struct request *r)
     if (!may_change_parent(&c))
         return NOT_GRANTED;
     struct dossier *d = c.dossier;
-    if (d->nodes.count == MAX_NODES || child_count(d, parent_of(c.node)) == MAX_STEP)
-        return NO_ROOM;
+    if (d->nodes.count == MAX_NODES)
+        return NODES_FULL;
+    if (child_count(d, parent_of(c.node)) == MAX_STEP)
+        return CHILDREN_FULL;
     enum refusal refused = meet(s, &c);
     if (refused != GRANTED)
         return refused;
@@ -113,14 +115,21 @@ enum refusal plain_cut_branch(struct session *s, const struct request *r)
     return GRANTED;
 }
 
-/* Nodes stand level by level, so the last is as deep as any. */
-static bool has_room_for_branch(const struct dossier *d, const struct dossier *held, key q)
+/* The first shelf that would be full. Nodes stand level by level, so the last is as deep as any. */
+static enum refusal shelf_for_branch(const struct dossier *d, const struct dossier *held, key q)
 {
     unsigned height = key_len(held->nodes.at[held->nodes.count - 1]);
-    return d->nodes.count + held->nodes.count <= MAX_NODES && key_len(q) + height <= MAX_DEPTH &&
-           child_count(d, parent_of(q)) < MAX_STEP &&
-           d->attributes.count + held->attributes.count <= MAX_ATTRIBUTES &&
-           d->permissions.count + held->permissions.count <= MAX_PERMISSIONS;
+    if (d->nodes.count + held->nodes.count > MAX_NODES)
+        return NODES_FULL;
+    if (key_len(q) + height > MAX_DEPTH)
+        return TOO_DEEP;
+    if (child_count(d, parent_of(q)) == MAX_STEP)
+        return CHILDREN_FULL;
+    if (d->attributes.count + held->attributes.count > MAX_ATTRIBUTES)
+        return ATTRIBUTES_FULL;
+    if (d->permissions.count + held->permissions.count > MAX_PERMISSIONS)
+        return PERMISSIONS_FULL;
+    return GRANTED;
 }
 
 enum refusal plain_paste_branch(struct session *s, const struct request *r)
@@ -137,9 +146,9 @@ enum refusal plain_paste_branch(struct session *s, const struct request *r)
         return WRONG_CLIPBOARD;
     if (!may_change_parent(&c))
         return NOT_GRANTED;
-    if (!has_room_for_branch(c.dossier, held, c.node))
-        return NO_ROOM;
-    enum refusal refused = meet(s, &c);
+    enum refusal refused = shelf_for_branch(c.dossier, held, c.node);
+    if (refused == GRANTED)
+        refused = meet(s, &c);
     if (refused != GRANTED)
         return refused;
     nodes_paste_branch(&c.dossier->nodes, &held->nodes, c.node);

@@ -1,4 +1,4 @@
-/* The language of PROTOCOL.md, base level: a line to a call, the call made on a session, its answer as a line. */
+/* The language of PROTOCOL.md, level 1: a line to a call, the call made on a session, its answer as a line. */
 #ifndef PLAIN_LINE_H
 #define PLAIN_LINE_H
 

@@ -29,7 +29,7 @@ enum refusal plain_add_permission(struct session *s, const struct request *r)
     if (clashes(t, at, &new))
         return CLASH;
     if (t->count == MAX_PERMISSIONS)
-        return NO_ROOM;
+        return PERMISSIONS_FULL;
     insert_permission(t, at, new);
     return GRANTED;
 }
@@ -68,7 +68,7 @@ enum refusal plain_delegate(struct session *s, const struct request *r)
     if (clashes(t, at, &new))
         return CLASH;
     if (t->count == MAX_PERMISSIONS)
-        return NO_ROOM;
+        return PERMISSIONS_FULL;
     enum refusal refused = meet(s, &c);
     if (refused == GRANTED)
         insert_permission(t, at, new);

@@ -1,4 +1,4 @@
-/* The dossier editor of document 01 in plain C: the baseline that the proved editor is measured against.
+/* The dossier editor of document 01, with Ask 1 of document 02, in plain C: the baseline that the proved editor is measured against.
  * One session, altered where it stands; tables in arrays in image order; nothing is allocated. */
 #ifndef PLAIN_H
 #define PLAIN_H
@@ -32,10 +32,15 @@ enum refusal {
     NOT_GRANTED = 6,
     NOT_COVERED = 7,
     CLASH = 8,
-    NO_ROOM = 9,
+    NO_ROOM = 9, /* in a lent buffer */
     UNSIGNED = 10,
     LOG_FULL = 11,
-    BAD_IMAGE = 12
+    BAD_IMAGE = 12,
+    NODES_FULL = 13, /* the shelves, tested in this order after CLASH */
+    TOO_DEEP = 14,
+    CHILDREN_FULL = 15,
+    ATTRIBUTES_FULL = 16,
+    PERMISSIONS_FULL = 17
 };
 
 enum { READ = 1, CHANGE = 2, PRINT = 3, DELEGATE = 4 };

@@ -19,8 +19,8 @@ use Rattle.roundtrip.proofs.Checks.{not-not, there-map}
 use Rattle.roundtrip.proofs.Found.{grant-there, object-permissions}
 use Rattle.roundtrip.proofs.Clash.{clash-in}
 use Rattle.twin.proofs.SameNode.{self-clash}
-use Rattle.twin.proofs.Requests.{Passed, passed, operands-good, numbered, every-number}
-use Rattle.twin.proofs.KeepRequest.{Within, within, map-missing}
+use Rattle.twin.proofs.Requests.{Within, Passed, passed, operands-good, numbered, every-number}
+use Rattle.twin.proofs.KeepRequest.{map-missing}
 use Rattle.moves.specs.Room.{FreshPermission}
 use Rattle.edits.specs.Room.{AttributeRoom, NodeRoom, PermissionRoom}
 
@@ -64,7 +64,7 @@ module _ {r : Request} {d : Dossier} {c : Clipboard} (a : Allowed r d c) where
   own-good {n} e = operands-good (numbered n r) (at-number e .operands) .1
 
   room-at : {n : ℕ} → r .number ≡ n → Within (totals (numbered n r) (found r d) (cached c))
-  room-at {n} e = within (totals (numbered n r) (found r d) (cached c)) (at-number e .bounds)
+  room-at e = at-number e .bounds
 
   -- ---- branches
   pub add-room : r .number ≡ 3 → (0 < length (r .path)) × NodeRoom d

@@ -30,8 +30,7 @@ use Rattle.state.specs.Parts.{numberedIn}
 use Rattle.state.proofs.Signing.{rows-back}
 use Rattle.state.proofs.Logs.{log-count}
 use Rattle.state.proofs.Sessions.{dossier-same, one-sound, two-sound, clipboard-sound, log-sound}
-use Rattle.twin.proofs.Requests.{passed, numbered}
-use Rattle.twin.proofs.KeepRequest.{below}
+use Rattle.twin.proofs.Requests.{below, passed, numbered}
 use Rattle.enforce.specs.Deeds.{Served, carriedOf}
 use Rattle.enforce.proofs.Allowed.{Allowed}
 

@@ -2,14 +2,14 @@
 use mathlib.Core.Path.{_≡_, refl, sym, ap, _∙_}
 use mathlib.Core.Bool.{Bool, true, false, _&&_, not}
 use mathlib.Core.Option.{Option, none, some}
-use mathlib.Core.List.{[], _∷_}
+use mathlib.Core.List.{List, [], _∷_, _++_}
 use Prim.Native.Nat.{ℕ, _≤_}
 use lib.Dec.{T, leb, leb→le}
 use Rattle.laws.specs.Slots.{pick}
 use Rattle.path.specs.Address.{valid}
 use Rattle.path.proofs.Structs.{no, both}
 use Rattle.model.specs.Decide.{Provisions}
-use Rattle.model.specs.Refusals.{Request, Found, Cached, Standing, badOperand, commonGood, ownGood, between, roleGood, userGood, timeGood, atRoot, absent, taken, wrongClipboard, missing, granted, uncovered, clashing, totals, overBound, provisions, unsigned, logFull, firstThat, refusal}
+use Rattle.model.specs.Refusals.{Request, Found, Cached, Standing, badOperand, commonGood, ownGood, between, roleGood, userGood, timeGood, atRoot, absent, taken, wrongClipboard, missing, granted, uncovered, clashing, totals, shelves, provisions, unsigned, logFull, provided, firstThat, refusal}
 use Rattle.grants.specs.View.{decisionOf, viewDecision}
 use Rattle.judge.specs.declared.Judged.{Judged}
 use Rattle.judge.specs.declared.Judged.the-variants.{Refused, Allowed}
@@ -21,6 +21,20 @@ skip t x y e = rw e
 
 hit : {A : Type 0} (t : Bool) (x y : A) → t ≡ true → pick t x y ≡ x
 hit t x y e = rw e
+
+-- a table behind a table: looked at where nothing applies before it
+abbrev orElse : Option ℕ → Option ℕ → Option ℕ
+orElse none o = o
+orElse (some n) o = some n
+
+first-of-both : (l m : List (ℕ × Bool)) → firstThat (l ++ m) ≡ orElse (firstThat l) (firstThat m)
+first-of-both [] m = refl
+first-of-both (row ∷ l) m = go (row .1) (first-of-both l m)
+  where
+    go : (b : Bool) → firstThat (l ++ m) ≡ orElse (firstThat l) (firstThat m)
+        → pick b (some (row .0)) (firstThat (l ++ m)) ≡ orElse (pick b (some (row .0)) (firstThat l)) (firstThat m)
+    go true behind = refl
+    go false behind = behind
 
 -- ---- the operands that were good
 not-bad : (b : Bool) → not b ≡ false → T b
@@ -78,15 +92,11 @@ module _ (r : Request) (f : Found) (c : Cached) (s : Standing) where
         ∙ hit (missing (granted r f)) _ _ e)
 
     module _ (passed : Passed r f c) where
+      abbrev last-tests : List (ℕ × Bool)
+      last-tests = provided (provisions (granted r f)) s
+
       -- the tests from 7 on
-      past : refusal r f c s
-          ≡ firstThat
-          ((7, uncovered r f)
-          ∷ (8, clashing r f)
-          ∷ (9, overBound (totals r f c))
-          ∷ (10, unsigned (provisions (granted r f)) s)
-          ∷ (11, logFull (provisions (granted r f)) s)
-          ∷ [])
+      past : refusal r f c s ≡ firstThat ((7, uncovered r f) ∷ (8, clashing r f) ∷ (shelves (totals r f c) ++ last-tests))
       past =
           skip (badOperand r) _ _ operands ∙ skip (atRoot r) _ _ (passed .root) ∙ skip (absent r f) _ _ (passed .there) ∙ skip (taken r f) _ _ (passed .free)
           ∙ skip (wrongClipboard r c) _ _ (passed .clipboard) ∙ skip (missing (granted r f)) _ _ (passed .may)
@@ -99,19 +109,21 @@ module _ (r : Request) (f : Found) (c : Cached) (s : Standing) where
         refused-8 e = given (past ∙ skip (uncovered r f) _ _ cover ∙ hit (clashing r f) _ _ e)
 
         module _ (apart : clashing r f ≡ false) where
-          pub refused-9 : overBound (totals r f c) ≡ true → Refused 9 ≡ verdict
-          refused-9 e = given (past ∙ skip (uncovered r f) _ _ cover ∙ skip (clashing r f) _ _ apart ∙ hit (overBound (totals r f c)) _ _ e)
+          -- the shelves, and what stands behind them
+          shelved : {o : Option ℕ} → firstThat (shelves (totals r f c)) ≡ o → refusal r f c s ≡ orElse o (firstThat last-tests)
+          shelved e =
+              past ∙ skip (uncovered r f) _ _ cover ∙ skip (clashing r f) _ _ apart ∙ first-of-both (shelves (totals r f c)) last-tests
+              ∙ ap (λ o. orElse o (firstThat last-tests)) e
 
-          module _ (room : overBound (totals r f c) ≡ false) where
+          pub refused-full : {n : ℕ} → firstThat (shelves (totals r f c)) ≡ some n → Refused n ≡ verdict
+          refused-full e = given (shelved e)
+
+          module _ (room : firstThat (shelves (totals r f c)) ≡ none) where
             pub refused-10 : unsigned (provisions (granted r f)) s ≡ true → Refused 10 ≡ verdict
-            refused-10 e =
-                given
-                (past ∙ skip (uncovered r f) _ _ cover ∙ skip (clashing r f) _ _ apart ∙ skip (overBound (totals r f c)) _ _ room ∙ hit (unsigned (provisions (granted r f)) s) _ _ e)
+            refused-10 e = given (shelved room ∙ hit (unsigned (provisions (granted r f)) s) _ _ e)
 
             last-test : unsigned (provisions (granted r f)) s ≡ false → refusal r f c s ≡ firstThat ((11, logFull (provisions (granted r f)) s) ∷ [])
-            last-test signed =
-                past ∙ skip (uncovered r f) _ _ cover ∙ skip (clashing r f) _ _ apart ∙ skip (overBound (totals r f c)) _ _ room
-                ∙ skip (unsigned (provisions (granted r f)) s) _ _ signed
+            last-test signed = shelved room ∙ skip (unsigned (provisions (granted r f)) s) _ _ signed
 
             pub refused-11 : unsigned (provisions (granted r f)) s ≡ false → logFull (provisions (granted r f)) s ≡ true → Refused 11 ≡ verdict
             refused-11 signed e = given (last-test signed ∙ hit (logFull (provisions (granted r f)) s) _ _ e)

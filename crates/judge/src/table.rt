@@ -19,6 +19,7 @@ use grants::Subject;
 use operands::bad_operand;
 use refusals::Cache;
 use refusals::Placed;
+use refusals::Shelf;
 use refusals::place::absent;
 use refusals::place::at_root;
 use refusals::place::placed;
@@ -26,7 +27,7 @@ use refusals::place::taken;
 use refusals::place::wrong_clipboard;
 use refusals::room::clashing;
 use refusals::room::log_full;
-use refusals::room::over_bound;
+use refusals::room::shelf_for;
 use refusals::room::uncovered;
 use refusals::room::unsigned;
 use state::Agreements;
@@ -84,7 +85,7 @@ fn agreements_of(may: Decision) -> u32
 
 // ---- the tests in their order; each answer is asked before, so that the order stands by itself
 
-// 7 to 11, of a request that is granted.
+// 7, 8, the shelves, 10 and 11, of a request that is granted.
 fn judged_granted(
     d: Dossier,
     c: Cache,
@@ -99,7 +100,7 @@ fn judged_granted(
     let messages = messages_of(may);
     let bare = uncovered(d, q);
     let clash = clashing(d, q);
-    let full = over_bound(d, c, q);
+    let shelf = shelf_for(d, c, q);
     let unread = unsigned(agreements_of(may), signed);
     let late = log_full(messages, entries);
     if bare {
@@ -108,16 +109,18 @@ fn judged_granted(
     if clash {
         return Judged::Refused(8);
     }
-    if full {
-        return Judged::Refused(9);
+    match shelf {
+        Shelf::Full(number) => Judged::Refused(number),
+        Shelf::Room => {
+            if unread {
+                return Judged::Refused(10);
+            }
+            if late {
+                return Judged::Refused(11);
+            }
+            Judged::Allowed(messages)
+        }
     }
-    if unread {
-        return Judged::Refused(10);
-    }
-    if late {
-        return Judged::Refused(11);
-    }
-    Judged::Allowed(messages)
 }
 
 // 2 to 6, of a request whose operands are good.

@@ -1,7 +1,7 @@
 -- The requests and when each is refused (document 01, "The calls" and "Refusal numbers"), on what an editor finds.
 use mathlib.Core.Bool.{Bool, true, false, _&&_, _||_, not}
 use mathlib.Core.Option.{Option, none, some}
-use mathlib.Core.List.{List, [], _∷_}
+use mathlib.Core.List.{List, [], _∷_, _++_}
 use Prim.Native.Nat.{ℕ, _+_}
 use lib.IntN.{ℤ, pos, negsuc}
 use lib.Signed.{leZ}
@@ -189,7 +189,7 @@ uncovered r f = eqb (r .number) 16 && not (coverAny (subject r) (r .permission) 
 abbrev pub clashing : Request → Found → Bool
 clashing r f = among (r .number) (14 ∷ 16 ∷ []) && clashAny (r .permission) (permissionsOf (object r f))
 
--- ---- 9: what there would be, where a request adds to it
+-- ---- 13 to 17: what there would be, where a request adds to it
 pub record Totals : Type 0 where
   pub nodes : ℕ
   pub depth : ℕ
@@ -253,12 +253,15 @@ onNodeOver n = ltb 16 n
 abbrev pub permissionsOver : ℕ → Bool
 permissionsOver n = ltb 128 n
 
--- "(nodes, depth, 32 children, attributes, permissions)"
-abbrev pub overBound : Totals → Bool
-overBound t =
-    nodesOver (t .nodes)
-    || (depthOver (t .depth)
-    || (childrenOver (t .children) || (attributesOver (t .attributes) || (onNodeOver (t .onNode) || permissionsOver (t .permissions)))))
+-- "say which shelf is full": "13 nodes, 14 depth, 15 children, 16 attributes (dossier or node), 17 permissions, tested in that order"
+abbrev pub shelves : Totals → List (ℕ × Bool)
+shelves t =
+    (13, nodesOver (t .nodes))
+    ∷ (14, depthOver (t .depth))
+    ∷ (15, childrenOver (t .children))
+    ∷ (16, attributesOver (t .attributes) || onNodeOver (t .onNode))
+    ∷ (17, permissionsOver (t .permissions))
+    ∷ []
 
 -- ---- 10: "If an agreement is unsigned by the user"; 11: "the messages don't all fit in the log"
 abbrev pub provisions : Option Provisions → Provisions
@@ -276,12 +279,16 @@ unsigned p s = not (subset (p .agreements) (s .signed))
 abbrev pub logFull : Provisions → Standing → Bool
 logFull p s = ltb 256 (s .entries + length (members (p .messages)))
 
+abbrev pub provided : Provisions → Standing → List (ℕ × Bool)
+provided p s = (10, unsigned p s) ∷ (11, logFull p s) ∷ []
+
 -- ---- the table
 -- "Tested in this order ..; the first that applies is given"
 abbrev pub firstThat : List (ℕ × Bool) → Option ℕ
 firstThat [] = none
 firstThat (row ∷ l) = pick (row .1) (some (row .0)) (firstThat l)
 
+-- the shelves stand "after 8", where 9 stood; 9 is left to the calls that write to a lent buffer (Run)
 abbrev pub refusal : Request → Found → Cached → Standing → Option ℕ
 refusal r f c s =
     firstThat
@@ -293,7 +300,4 @@ refusal r f c s =
     ∷ (6, missing (granted r f))
     ∷ (7, uncovered r f)
     ∷ (8, clashing r f)
-    ∷ (9, overBound (totals r f c))
-    ∷ (10, unsigned (provisions (granted r f)) s)
-    ∷ (11, logFull (provisions (granted r f)) s)
-    ∷ [])
+    ∷ (shelves (totals r f c) ++ provided (provisions (granted r f)) s))

@@ -1,10 +1,13 @@
 -- The structs of this crate and the model.
-use Prim.Native.Nat.{_≤_}
+use mathlib.Core.Option.{Option, none, some}
+use Prim.Native.Nat.{ℕ, _≤_}
 use Rattle.path.specs.View.{steps}
 use Rattle.model.specs.Refusals.{Request, Cached}
 use Rattle.tables.specs.View.{viewValue, viewGrant}
 use Rattle.refusals.specs.declared.Placed.{Placed}
 use Rattle.refusals.specs.declared.Cache.{Cache}
+use Rattle.refusals.specs.declared.Shelf.{Shelf}
+use Rattle.refusals.specs.declared.Shelf.the-variants.{Room, Full}
 
 abbrev pub viewPlaced : Placed → Request
 viewPlaced q =
@@ -35,3 +38,8 @@ pub record CacheSound (c : Cache) : Type 0 where
   pub attributes : c .attributes ≤ 256
   pub permissions : c .permissions ≤ 128
   pub height : c .height ≤ 6
+
+-- the first of the shelves' refusals that applies
+abbrev pub viewShelf : Shelf → Option ℕ
+viewShelf Room = none
+viewShelf (Full n) = some n

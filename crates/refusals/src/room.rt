@@ -1,4 +1,4 @@
-// Refusals 7 to 11: what may be handed on, what clashes, and what there is room for.
+// Refusals 7, 8, 10, 11 and 13 to 17: what may be handed on, what clashes, and what there is room for.
 ghost use mathlib.Core.Path.{_≡_};
 ghost use mathlib.Core.Bool.{not};
 ghost use Prim.Native.Nat.{_+_, _≤_};
@@ -9,10 +9,11 @@ ghost use Rattle.model.specs.Decide.{coverAny, clashAny, subset, members};
 ghost use Rattle.model.specs.Refusals as refusals;
 ghost use Rattle.model.specs.Run as run;
 ghost use Rattle.tables.specs.View.{viewGrant, viewDossier, DossierFits};
-ghost use Rattle.refusals.specs.View.{viewPlaced, viewCache, CacheSound};
+ghost use Rattle.refusals.specs.View.{viewPlaced, viewShelf, CacheSound};
 ghost use Rattle.refusals.specs.Parts.{objectOf, totalsOf};
 use crate::Cache;
 use crate::Placed;
+use crate::Shelf;
 use counts::attributes_over;
 use counts::children_in;
 use counts::children_over;
@@ -155,9 +156,10 @@ fn permissions_full(d: Dossier, c: Cache, q: Placed) -> bool
     }
 }
 
-pub fn over_bound(d: Dossier, c: Cache, q: Placed) -> bool
+// The first that would be passed, in the table's order.
+pub fn shelf_for(d: Dossier, c: Cache, q: Placed) -> Shelf
     requires { ⌜ DossierFits d × CacheSound c × PathSound (q .path) ⌝ }
-    ensures { λ b. ⌜ b ≡ refusals.overBound (refusals.totals (viewPlaced q) (run.found (viewPlaced q) (viewDossier d)) (viewCache c)) ⌝ }
+    ensures { λ s. ⌜ viewShelf s ≡ refusals.firstThat (refusals.shelves (totalsOf d c q)) ⌝ }
 {
     let nodes = nodes_full(d, c, q);
     let depth = depth_full(d, c, q);
@@ -165,7 +167,22 @@ pub fn over_bound(d: Dossier, c: Cache, q: Placed) -> bool
     let attributes = attributes_full(d, c, q);
     let on_node = on_node_full(d, c, q);
     let permissions = permissions_full(d, c, q);
-    nodes | (depth | (children | (attributes | (on_node | permissions))))
+    if nodes {
+        return Shelf::Full(13);
+    }
+    if depth {
+        return Shelf::Full(14);
+    }
+    if children {
+        return Shelf::Full(15);
+    }
+    if attributes | on_node {
+        return Shelf::Full(16);
+    }
+    if permissions {
+        return Shelf::Full(17);
+    }
+    Shelf::Room
 }
 
 // ---- signatures and the log

@@ -27,4 +27,11 @@ pub fn help() {
     say(
         b"PERMISSION is ROLE ACTION USER FIRST LAST MESSAGES AGREEMENTS; IMAGE is hex, - for no bytes, or @FILE\n",
     );
+    say(
+        b"refused N: 1 bad operand, 2 the root, 3 absent, 4 name taken, 5 clipboard, 6 not granted, 7 not covered, 8 clash,\n",
+    );
+    say(
+        b"  9 ROOM too short, 10 unsigned, 11 log full, 12 bad image, with its record; no room for more:\n",
+    );
+    say(b"  13 nodes, 14 depth, 15 children, 16 attributes, 17 permissions\n");
 }

@@ -6,48 +6,21 @@ use mathlib.Core.List.{[], List·Memᴰ·not-nil}
 use Prim.Native.Nat.{ℕ, _+_, _≤_}
 use native.Mathlib.Omega.{arith}
 use lib.Signed.{leZ}
-use lib.Dec.{T, eqb, leb, ltb, leb→le, nltb→le, eqb→eq, not-T}
+use lib.Dec.{T, eqb, leb, leb→le, eqb→eq, not-T}
 use mir.Facts.{and-yes}
 use Rattle.path.specs.Address.{Address, parent}
 use Rattle.model.specs.Things.{Permission}
 use Rattle.model.specs.Decide.{clashAny}
-use Rattle.model.specs.Refusals.{Request, missing, between, roleGood, nameGood, timeGood, valueGood, permissionGood, grantGood, ownGood, permissionsOf, Totals, totals, overBound, Standing}
+use Rattle.model.specs.Refusals.{Request, missing, between, roleGood, nameGood, timeGood, valueGood, permissionGood, grantGood, ownGood, permissionsOf, totals, Standing}
 use Rattle.model.specs.Image.{there}
-use Rattle.roundtrip.proofs.Checks.{neither, absent-none}
+use Rattle.roundtrip.proofs.Checks.{absent-none}
 use Rattle.twin.specs.Tree.{Tree, kids, count, branch, weigh}
 use Rattle.twin.specs.Twin.{Holding, Node, Clip, empty, branched, single, leaf, holdingObject, holdingAt, objectAt, childrenOf, permissionItems, found, cached, pastedBranch, renamed, pastedAttribute, edited, copiedBranch, copied, clipped}
 use Rattle.twin.specs.Good.{GoodHolding, GoodTree, GoodSingle, GoodClip}
 use Rattle.twin.proofs.KeepEdits.{leaf-good, branch-good, single-good, paste-good, leaf-room, delete-good, hold-good, without-good, value-good, revoke-good, grant-good}
-use Rattle.twin.proofs.Requests.{Passed, operands-good, Common, request-common, numbered, every-number}
+use Rattle.twin.proofs.Requests.{Within, Passed, operands-good, Common, request-common, numbered, every-number}
 
 -- ---- what the tests say
-pub record Within (t : Totals) : Type 0 where
-  pub nodes : t .nodes ≤ 64
-  pub depth : t .depth ≤ 6
-  pub children : t .children ≤ 32
-  pub attributes : t .attributes ≤ 256
-  pub on-node : t .onNode ≤ 16
-  pub permissions : t .permissions ≤ 128
-
-pub below : (a b : ℕ) → (T (ltb a b) → ⊥) → b ≤ a
-below a b n = nltb→le a b (not-T (ltb a b) n)
-
-pub within : (t : Totals) → (T (overBound t) → ⊥) → Within t
-within t n =
-    let a = neither (ltb 64 (t .nodes)) (ltb 6 (t .depth) || (ltb 32 (t .children) || (ltb 256 (t .attributes) || (ltb 16 (t .onNode) || ltb 128 (t .permissions))))) n in
-    let b = neither (ltb 6 (t .depth)) (ltb 32 (t .children) || (ltb 256 (t .attributes) || (ltb 16 (t .onNode) || ltb 128 (t .permissions)))) (a .1) in
-    let c = neither (ltb 32 (t .children)) (ltb 256 (t .attributes) || (ltb 16 (t .onNode) || ltb 128 (t .permissions))) (b .1) in
-    let d = neither (ltb 256 (t .attributes)) (ltb 16 (t .onNode) || ltb 128 (t .permissions)) (c .1) in
-    let e = neither (ltb 16 (t .onNode)) (ltb 128 (t .permissions)) (d .1) in
-    record {
-      nodes = below 64 (t .nodes) (a .0);
-      depth = below 6 (t .depth) (b .0);
-      children = below 32 (t .children) (c .0);
-      attributes = below 256 (t .attributes) (d .0);
-      on-node = below 16 (t .onNode) (e .0);
-      permissions = below 128 (t .permissions) (e .1);
-    }
-
 pub map-missing : {A B : Type 0} (f : A → B) (o : Option A) → (T (not (missing (Option·map f o))) → ⊥) → o ≡ none
 map-missing f o n = map-eq-none-iff f o .0 (absent-none (Option·map f o) (not-T (there (Option·map f o)) n))
 
@@ -116,7 +89,7 @@ module _ (r : Request) (t : Tree Node) (gt : GoodTree t) where
     facts : (n : ℕ) → Passed (numbered n r) (found r t) (cached c) st → Common (numbered n r) × T (ownGood (numbered n r)) × Within (totals (numbered n r) (found r t) (cached c))
     facts n p =
         let w = operands-good (numbered n r) (p .operands) in
-        (request-common (numbered n r) (p .operands), w .1, within (totals (numbered n r) (found r t) (cached c)) (p .bounds))
+        (request-common (numbered n r) (p .operands), w .1, p .bounds)
 
     add-node : Kept 3
     add-node p =

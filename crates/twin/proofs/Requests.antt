@@ -2,17 +2,17 @@
 use mathlib.Core.Path.{_≡_, sym, subst}
 use mathlib.Core.Bool.{Bool, true, false, _&&_, _||_}
 use mathlib.Core.Option.{Option, none}
-use mathlib.Core.List.{List, [], _∷_}
+use mathlib.Core.List.{List, [], _∷_, _++_}
 use Prim.Native.Nat.{ℕ, _≤_}
-use lib.Dec.{T, eqb, leb, leb→le, eqb→eq}
+use lib.Dec.{T, eqb, leb, ltb, leb→le, nltb→le, eqb→eq, not-T}
 use lib.ListN.{length}
 use mir.Facts.{and-yes}
 use Rattle.laws.specs.Slots.{pick, All}
 use Rattle.path.specs.Address.{stepsGood, valid}
 use Rattle.model.specs.Decide.{Provisions}
-use Rattle.model.specs.Refusals.{Request, among, choose, Found, Cached, missing, between, userGood, roleGood, nameGood, timeGood, valueGood, commonGood, grantGood, ownGood, badOperand, atRoot, absent, taken, wrongClipboard, granted, uncovered, clashing, totals, overBound, provisions, Standing, unsigned, logFull, refusal}
-use Rattle.roundtrip.proofs.Checks.{not-not}
-use Rattle.twin.proofs.Refusal.{Rows, no-refusal}
+use Rattle.model.specs.Refusals.{Request, among, choose, Found, Cached, missing, between, userGood, roleGood, nameGood, timeGood, valueGood, commonGood, grantGood, ownGood, badOperand, atRoot, absent, taken, wrongClipboard, granted, uncovered, clashing, Totals, totals, attributesOver, onNodeOver, shelves, provisions, Standing, logFull, provided, refusal}
+use Rattle.roundtrip.proofs.Checks.{not-not, neither}
+use Rattle.twin.proofs.Refusal.{Rows, Untrue, no-refusal}
 
 -- the table of refusals, told what is granted and whether nothing covers
 abbrev pub tests : Request → Found → Cached → Standing → Option Provisions → Bool → Rows
@@ -25,10 +25,32 @@ tests r f c s g nocover =
     ∷ (6, missing g)
     ∷ (7, nocover)
     ∷ (8, clashing r f)
-    ∷ (9, overBound (totals r f c))
-    ∷ (10, unsigned (provisions g) s)
-    ∷ (11, logFull (provisions g) s)
-    ∷ []
+    ∷ (shelves (totals r f c) ++ provided (provisions g) s)
+
+-- every bound is kept
+pub record Within (t : Totals) : Type 0 where
+  pub nodes : t .nodes ≤ 64
+  pub depth : t .depth ≤ 6
+  pub children : t .children ≤ 32
+  pub attributes : t .attributes ≤ 256
+  pub on-node : t .onNode ≤ 16
+  pub permissions : t .permissions ≤ 128
+
+pub below : (a b : ℕ) → (T (ltb a b) → ⊥) → b ≤ a
+below a b n = nltb→le a b (not-T (ltb a b) n)
+
+-- the part of the table that tells the shelves, where none applies
+within : (t : Totals) (l : Rows) → All Untrue (shelves t ++ l) → Within t
+within t l w =
+    let attributes = neither (attributesOver (t .attributes)) (onNodeOver (t .onNode)) (subst T (w .1 .1 .1 .0)) in
+    record {
+      nodes = below 64 (t .nodes) (subst T (w .0));
+      depth = below 6 (t .depth) (subst T (w .1 .0));
+      children = below 32 (t .children) (subst T (w .1 .1 .0));
+      attributes = below 256 (t .attributes) (attributes .0);
+      on-node = below 16 (t .onNode) (attributes .1);
+      permissions = below 128 (t .permissions) (subst T (w .1 .1 .1 .1 .0));
+    }
 
 pub record Passed (r : Request) (f : Found) (c : Cached) (s : Standing) : Type 0 where
   pub operands : T (badOperand r) → ⊥
@@ -37,12 +59,13 @@ pub record Passed (r : Request) (f : Found) (c : Cached) (s : Standing) : Type 0
   pub free : T (taken r f) → ⊥
   pub kind : T (wrongClipboard r c) → ⊥
   pub clash : T (clashing r f) → ⊥
-  pub bounds : T (overBound (totals r f c)) → ⊥
+  pub bounds : Within (totals r f c)
   pub log : T (logFull (provisions (granted r f)) s) → ⊥
 
 pub passed : (r : Request) (f : Found) (c : Cached) (s : Standing) → refusal r f c s ≡ none → Passed r f c s
 passed r f c s e =
     let w = no-refusal (tests r f c s (granted r f) (uncovered r f)) .0 e in
+    let above = w .1 .1 .1 .1 .1 .1 .1 .1 in
     record {
       operands = subst T (w .0);
       root = subst T (w .1 .0);
@@ -50,8 +73,8 @@ passed r f c s e =
       free = subst T (w .1 .1 .1 .0);
       kind = subst T (w .1 .1 .1 .1 .0);
       clash = subst T (w .1 .1 .1 .1 .1 .1 .1 .0);
-      bounds = subst T (w .1 .1 .1 .1 .1 .1 .1 .1 .0);
-      log = subst T (w .1 .1 .1 .1 .1 .1 .1 .1 .1 .1 .0);
+      bounds = within (totals r f c) (provided (provisions (granted r f)) s) above;
+      log = subst T (above .1 .1 .1 .1 .1 .1 .0);
     }
 
 -- ---- operands

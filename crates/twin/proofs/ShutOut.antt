@@ -20,7 +20,7 @@ use Rattle.path.proofs.Laws.{on-off, off-on}
 use Rattle.model.specs.Things.{whole, Row, Dossier, State}
 use Rattle.model.specs.Decide.{Subject, Object, Provisions, nothing, joined, matched, owned, readBy, changeBy, ownBy, given, coverAny}
 use Rattle.model.specs.Moves.{oneStep, childStep, attributeAt, namesOn, childCount}
-use Rattle.model.specs.Refusals.{Request, subject, choose, Found, Cached, object, between, badOperand, atRoot, absent, taken, wrongClipboard, granted, permissionsOf, uncovered, clashing, totals, overBound, firstThat}
+use Rattle.model.specs.Refusals.{Request, subject, choose, Found, Cached, object, between, badOperand, atRoot, absent, taken, wrongClipboard, granted, permissionsOf, uncovered, clashing, totals, shelves, firstThat}
 use Rattle.model.specs.Run.{Call, request, Answer, done, contents, refused, Reply, dossier, found, cached, standing, answered, requested, step, runFrom, run}
 use Rattle.model.specs.Starred.{permit, asks, noPermission, plain, numbers, twoChildren}
 use Rattle.twin.proofs.Children.{upto, oneStep-some}
@@ -55,9 +55,7 @@ otherwise r f c entries =
     ∷ (4, taken r f)
     ∷ (5, wrongClipboard r c)
     ∷ (8, clashing r f)
-    ∷ (9, overBound (totals r f c))
-    ∷ (11, ltb 256 entries)
-    ∷ []
+    ∷ (shelves (totals r f c) ++ ((11, ltb 256 entries) ∷ []))
 
 -- one after another, without brackets
 infixr 5 _also_

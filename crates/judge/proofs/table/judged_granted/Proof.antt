@@ -1,4 +1,4 @@
--- `judge::table::judged_granted` meets its contract: the tests 7 to 11 in their order. Assumes nothing.
+-- `judge::table::judged_granted` meets its contract: the tests from 7 on in their order. Assumes nothing.
 use mathlib.Core.Path.{_≡_, sym, ap, _∙_}
 use mathlib.Core.Bool.{not}
 use Prim.Native.Nat.{_+_}
@@ -9,9 +9,10 @@ use Rattle.model.specs.Decide.{subset, members}
 use Rattle.model.specs.Refusals as refusals
 use Rattle.grants.specs.View.{viewDecision}
 use Rattle.judge.specs.declared.Judged.the-variants.{Allowed}
-use Rattle.refusals.specs.View.{viewPlaced, viewCache}
+use Rattle.refusals.specs.declared.Shelf.{Shelf}
+use Rattle.refusals.specs.View.{viewPlaced, viewCache, viewShelf}
 use Rattle.refusals.specs.Parts.{foundFor}
-use Rattle.judge.proofs.Order.{decision-seen, refused-7, refused-8, refused-9, refused-10, refused-11, allowed}
+use Rattle.judge.proofs.Order.{decision-seen, refused-7, refused-8, refused-full, refused-10, refused-11, allowed}
 use Rattle.judge.proofs.table.judged_granted.Statement.{statement}
 use Rattle.judge.proofs.table.judged_granted.Tie as tie
 
@@ -24,8 +25,8 @@ uncovered-requires c κs = let p = c .before .pre in (p .0, p .3)
 clashing-requires : tie.Need-clashing-requires
 clashing-requires c κs = let p = c .before .before .pre in (p .0, p .3)
 
-over-bound-requires : tie.Need-over-bound-requires
-over-bound-requires c κs = let p = c .before .before .before .pre in (p .0, p .1, p .3)
+shelf-for-requires : tie.Need-shelf-for-requires
+shelf-for-requires c κs = let p = c .before .before .before .pre in (p .0, p .1, p .3)
 
 agreements-of-requires : tie.Need-agreements-of-requires
 agreements-of-requires c κs = search needs
@@ -69,8 +70,8 @@ module _ (a : tie.After-log-full) where
   clash : refusals.clashing request finds ≡ a .before .before .before .before .clashing .result
   clash = sym (a .before .before .before .before .clashing .ensures)
 
-  full : refusals.overBound (refusals.totals request finds cache) ≡ a .before .before .before .over-bound .result
-  full = sym (a .before .before .before .over-bound .ensures)
+  shelf : {o : Shelf} → a .before .before .before .shelf-for .result ≡ o → refusals.firstThat (refusals.shelves (refusals.totals request finds cache)) ≡ viewShelf o
+  shelf e = sym (a .before .before .before .shelf-for .ensures) ∙ ap viewShelf e
 
   unread : refusals.unsigned (refusals.provisions (refusals.granted request finds)) standing ≡ a .before .unsigned .result
   unread = sym (a .before .unsigned .ensures ∙ ap (λ n. not (subset n (start .args .signed))) agreements)
@@ -91,45 +92,52 @@ returns-2 c =
     let p = start a .pre in
     refused-8 (request a) (finds a) (cache a) (standing a) (p .4) (p .5) (bare a ∙ i1 .if1 .left) (clash a ∙ c .if2 .taken)
 
+enum-known-shelf : tie.Need-enum-known-shelf
+enum-known-shelf c = search needs
+
+enum-told : tie.Need-enum-told
+enum-told c = search needs
+
 returns-3 : tie.Need-returns-3
 returns-3 c =
-    let i2 = c .before in
+    let m = c .before in
+    let i2 = m .before .before in
     let i1 = i2 .before in
     let a = i1 .before in
     let p = start a .pre in
-    refused-9 (request a) (finds a) (cache a) (standing a) (p .4) (p .5) (bare a ∙ i1 .if1 .left) (clash a ∙ i2 .if2 .left) (full a ∙ c .if3 .taken)
+    refused-10 (request a) (finds a) (cache a) (standing a) (p .4) (p .5) (bare a ∙ i1 .if1 .left) (clash a ∙ i2 .if2 .left) (shelf a (m .enum-told .given .1)) (unread a ∙ c .if3 .taken)
 
 returns-4 : tie.Need-returns-4
 returns-4 c =
     let i3 = c .before in
-    let i2 = i3 .before in
+    let m = i3 .before in
+    let i2 = m .before .before in
     let i1 = i2 .before in
     let a = i1 .before in
     let p = start a .pre in
-    refused-10 (request a) (finds a) (cache a) (standing a) (p .4) (p .5) (bare a ∙ i1 .if1 .left) (clash a ∙ i2 .if2 .left) (full a ∙ i3 .if3 .left) (unread a ∙ c .if4 .taken)
+    refused-11 (request a) (finds a) (cache a) (standing a) (p .4) (p .5) (bare a ∙ i1 .if1 .left) (clash a ∙ i2 .if2 .left) (shelf a (m .enum-told .given .1)) (unread a ∙ i3 .if3 .left) (late a ∙ c .if4 .taken)
 
 returns-5 : tie.Need-returns-5
 returns-5 c =
-    let i4 = c .before in
-    let i3 = i4 .before in
-    let i2 = i3 .before in
+    let m = c .before in
+    let i2 = m .before .before in
     let i1 = i2 .before in
     let a = i1 .before in
     let p = start a .pre in
-    refused-11 (request a) (finds a) (cache a) (standing a) (p .4) (p .5) (bare a ∙ i1 .if1 .left) (clash a ∙ i2 .if2 .left) (full a ∙ i3 .if3 .left) (unread a ∙ i4 .if4 .left) (late a ∙ c .if5 .taken)
+    refused-full (request a) (finds a) (cache a) (standing a) (p .4) (p .5) (bare a ∙ i1 .if1 .left) (clash a ∙ i2 .if2 .left) (shelf a (m .shelf .given .1))
 
 returns-6 : tie.Need-returns-6
 returns-6 c =
-    let i4 = c .before in
-    let i3 = i4 .before in
-    let i2 = i3 .before in
+    let i3 = c .before in
+    let m = i3 .before in
+    let i2 = m .before .before in
     let i1 = i2 .before in
     let a = i1 .before in
     let p = start a .pre in
     ap Allowed (messages a)
-    ∙ allowed (request a) (finds a) (cache a) (standing a) (p .4) (p .5) (bare a ∙ i1 .if1 .left) (clash a ∙ i2 .if2 .left) (full a ∙ i3 .if3 .left) (unread a ∙ i4 .if4 .left) (late a ∙ c .if5 .left)
+    ∙ allowed (request a) (finds a) (cache a) (standing a) (p .4) (p .5) (bare a ∙ i1 .if1 .left) (clash a ∙ i2 .if2 .left) (shelf a (m .enum-told .given .1)) (unread a ∙ i3 .if3 .left) (late a ∙ c .if4 .left)
 
 pub judged-granted-spec : {M : Type 1} → statement M
 judged-granted-spec =
     tie.close
-    (tie.spec messages-of-requires uncovered-requires clashing-requires over-bound-requires agreements-of-requires unsigned-requires log-full-requires returns returns-2 returns-3 returns-4 returns-5 returns-6)
+    (tie.spec messages-of-requires uncovered-requires clashing-requires shelf-for-requires agreements-of-requires unsigned-requires log-full-requires returns returns-2 enum-known-shelf enum-told returns-3 returns-4 returns-5 returns-6)
