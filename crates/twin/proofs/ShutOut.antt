@@ -1,4 +1,4 @@
--- What document 01 shuts out: a build that refuses owners, gives a fixed answer, does nothing, stops after one request, or invents a child count. Assumes nothing.
+-- What documents 01 and 02 shut out: a build that refuses owners, says 9 for a full shelf, gives a fixed answer, does nothing, stops after one request, or invents a child count. Assumes nothing.
 use mathlib.Core.Path.{_≡_, refl, sym, ap, ap₂, subst, _∙_}
 use mathlib.Core.Logic.{_⊎_, inl, inr, _↔_, _≢_}
 use mathlib.Core.Bool.{Bool, false, not, _&&_}
@@ -144,6 +144,12 @@ pub owners-run : numbers
     ≡ replicate 6 0
 unfolding step
 owners-run = refl
+
+-- ---- a build that says 9 where a shelf is full: "Refusal 9 stays only for a lent buffer that is too short", and a request is lent none
+pub never-nine : (s : State) (r : Request) → requested s r .1 ≢ refused 9
+never-nine s r e =
+    let f = found r (dossier (r .dossier) s) in
+    only-then 9 (tests r f (cached (s .clipboard)) (standing r (s .signatures) (s .log)) (granted r f) (uncovered r f)) (refused-is s r 9 e)
 
 -- ---- a build that gives a fixed answer: example 6
 -- a read of the root at a time, by user 5 in role 2
