@@ -39,7 +39,7 @@ static enum refusal ask_library(const struct line_call *c)
 {
     const struct request *q = &c->request;
     const uint8_t *s = q->path.step;
-    return (enum refusal)dossier_ask(c->image, c->image_len, q->role, q->user, q->time, q->path.len, s[0], s[1], s[2],
+    return (enum refusal)dossier_ask(q->image, q->image_len, q->role, q->user, q->time, q->path.len, s[0], s[1], s[2],
                                      s[3], s[4], s[5], q->name, c->action, buffer, c->room);
 }
 

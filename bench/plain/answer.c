@@ -5,7 +5,6 @@
 void make_call(struct session *s, const struct line_call *c, uint8_t *buffer, struct line_result *r)
 {
     const struct request *q = &c->request;
-    r->record = 0;
     r->written = 0;
     r->refusal = GRANTED;
     switch (c->kind) {
@@ -22,7 +21,7 @@ void make_call(struct session *s, const struct line_call *c, uint8_t *buffer, st
         r->refusal = plain_sign(s, q->user, c->agreement);
         break;
     case CALL_LOAD:
-        r->refusal = plain_load(s, q->dossier, c->image, c->image_len, &r->record);
+        r->refusal = plain_load(s, q->dossier, q->image, q->image_len, &r->answer.record);
         break;
     case CALL_SAVE:
         r->refusal = plain_save(s, q->dossier, buffer, c->room, &r->written);
@@ -34,7 +33,7 @@ void make_call(struct session *s, const struct line_call *c, uint8_t *buffer, st
         r->refusal = plain_take_log(s, buffer, c->room, &r->written);
         break;
     case CALL_ASK:
-        r->refusal = plain_ask(c->image, c->image_len, q->role, q->user, q->time, &q->path, q->name, c->action,
+        r->refusal = plain_ask(q->image, q->image_len, q->role, q->user, q->time, &q->path, q->name, c->action,
                                buffer, c->room);
         r->written = r->refusal == GRANTED ? ASK_BYTES : 0;
         break;
@@ -93,8 +92,8 @@ void print_result(FILE *to, const struct line_call *c, const struct line_result 
 {
     if (r->refusal == GRANTED)
         print_grant(to, c, r, buffer);
-    else if (r->refusal == BAD_IMAGE && c->kind == CALL_LOAD)
-        fprintf(to, "refused 12 record=%zu\n", r->record);
+    else if (r->refusal == BAD_IMAGE && c->kind != CALL_ASK)
+        fprintf(to, "refused 12 record=%zu\n", r->answer.record);
     else
         fprintf(to, "refused %d\n", (int)r->refusal);
 }

@@ -1,5 +1,6 @@
-/* Requests 1 and 3 to 7: nodes and branches. */
+/* Requests 1, 3 to 7 and 17: nodes and branches. */
 #include "call.h"
+#include "image.h"
 
 static void delete_branch(struct dossier *d, key q)
 {
@@ -116,26 +117,41 @@ enum refusal plain_cut_branch(struct session *s, const struct request *r)
 }
 
 /* The first shelf that would be full. Nodes stand level by level, so the last is as deep as any. */
-static enum refusal shelf_for_branch(const struct dossier *d, const struct dossier *held, key q)
+static enum refusal shelf_for_branch(const struct dossier *d, const struct dossier *branch, key q)
 {
-    unsigned height = key_len(held->nodes.at[held->nodes.count - 1]);
-    if (d->nodes.count + held->nodes.count > MAX_NODES)
+    unsigned height = key_len(branch->nodes.at[branch->nodes.count - 1]);
+    if (d->nodes.count + branch->nodes.count > MAX_NODES)
         return NODES_FULL;
     if (key_len(q) + height > MAX_DEPTH)
         return TOO_DEEP;
     if (child_count(d, parent_of(q)) == MAX_STEP)
         return CHILDREN_FULL;
-    if (d->attributes.count + held->attributes.count > MAX_ATTRIBUTES)
+    if (d->attributes.count + branch->attributes.count > MAX_ATTRIBUTES)
         return ATTRIBUTES_FULL;
-    if (d->permissions.count + held->permissions.count > MAX_PERMISSIONS)
+    if (d->permissions.count + branch->permissions.count > MAX_PERMISSIONS)
         return PERMISSIONS_FULL;
+    return GRANTED;
+}
+
+/* At a place that is there: refusal 6, then the shelves, then 10 and 11. */
+static enum refusal place_branch(struct session *s, struct call *c, const struct dossier *branch)
+{
+    if (!may_change_parent(c))
+        return NOT_GRANTED;
+    enum refusal refused = shelf_for_branch(c->dossier, branch, c->node);
+    if (refused == GRANTED)
+        refused = meet(s, c);
+    if (refused != GRANTED)
+        return refused;
+    nodes_paste_branch(&c->dossier->nodes, &branch->nodes, c->node);
+    attributes_paste_branch(&c->dossier->attributes, &branch->attributes, c->node);
+    permissions_paste_branch(&c->dossier->permissions, &branch->permissions, c->node);
     return GRANTED;
 }
 
 enum refusal plain_paste_branch(struct session *s, const struct request *r)
 {
     struct call c;
-    const struct dossier *held = &s->clipboard.held;
     if (!begin(s, r, &c))
         return BAD_OPERAND;
     if (r->path.len == 0)
@@ -144,15 +160,20 @@ enum refusal plain_paste_branch(struct session *s, const struct request *r)
         return ABSENT;
     if (s->clipboard.kind != CLIPBOARD_BRANCH)
         return WRONG_CLIPBOARD;
-    if (!may_change_parent(&c))
-        return NOT_GRANTED;
-    enum refusal refused = shelf_for_branch(c.dossier, held, c.node);
-    if (refused == GRANTED)
-        refused = meet(s, &c);
-    if (refused != GRANTED)
-        return refused;
-    nodes_paste_branch(&c.dossier->nodes, &held->nodes, c.node);
-    attributes_paste_branch(&c.dossier->attributes, &held->attributes, c.node);
-    permissions_paste_branch(&c.dossier->permissions, &held->permissions, c.node);
-    return GRANTED;
+    return place_branch(s, &c, &s->clipboard.held);
+}
+
+enum refusal plain_add_image(struct session *s, const struct request *r, struct answer *a)
+{
+    struct call c;
+    struct dossier branch;
+    if (!begin(s, r, &c))
+        return BAD_OPERAND;
+    if (!read_branch(&branch, r->image, r->image_len, r->user, &a->record))
+        return BAD_IMAGE;
+    if (r->path.len == 0)
+        return EMPTY_PATH;
+    if (!has_place(&c))
+        return ABSENT;
+    return place_branch(s, &c, &branch);
 }

@@ -158,6 +158,21 @@ bool read_image(struct dossier *d, const uint8_t *image, size_t len, size_t *rec
     return true;
 }
 
+/* Permissions stand last, so the first of them is one beyond the nodes and attributes. */
+bool read_branch(struct dossier *d, const uint8_t *image, size_t len, uint8_t owner, size_t *record)
+{
+    bool good = read_image(d, image, len, record);
+    if (d->permissions.count > 0) {
+        *record = d->nodes.count + d->attributes.count + 1;
+        return false;
+    }
+    for (size_t i = 0; i < d->nodes.count; i++)
+        d->nodes.row[i] = owner;
+    for (size_t i = 0; i < d->attributes.count; i++)
+        d->attributes.row[i].owner = owner;
+    return good;
+}
+
 size_t image_bytes(const struct dossier *d)
 {
     return RECORD_BYTES * (d->nodes.count + d->attributes.count + d->permissions.count);

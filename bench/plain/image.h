@@ -9,6 +9,9 @@
 /* Fills d from an image; false, with the bad record's number, if the image is bad. d is then left in part filled. */
 bool read_image(struct dossier *d, const uint8_t *image, size_t len, size_t *record);
 
+/* The same for a branch of nodes and attributes, which all go to the owner; a permission is a bad record. */
+bool read_branch(struct dossier *d, const uint8_t *image, size_t len, uint8_t owner, size_t *record);
+
 size_t image_bytes(const struct dossier *d);
 
 /* Writes image_bytes(d) bytes. */

@@ -1,4 +1,4 @@
-/* The language of PROTOCOL.md, level 1: a line to a call, the call made on a session, its answer as a line. */
+/* The language of PROTOCOL.md, level 2: a line to a call, the call made on a session, its answer as a line. */
 #ifndef PLAIN_LINE_H
 #define PLAIN_LINE_H
 
@@ -35,14 +35,12 @@ struct line_call {
     struct request request; /* also the operands of the other calls; an owner is its user */
     uint8_t agreement, action;
     size_t room;
-    size_t image_len;
-    uint8_t image[MAX_WORD_BYTES];
+    uint8_t bytes[MAX_WORD_BYTES]; /* of the image */
     char file[MAX_FILE_NAME + 1];
 };
 
 struct line_result {
     enum refusal refusal;
-    size_t record;
     size_t written;
     struct answer answer;
 };

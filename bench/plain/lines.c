@@ -10,7 +10,8 @@ static const char help_text[] =
     "read-attribute, delete-attribute, copy-attribute, cut-attribute, paste-attribute: D ROLE USER TIME PATH NAME\n"
     "add-attribute, change-value: D ROLE USER TIME PATH NAME VALUE\n"
     "add-permission, delete-permission, delegate: D ROLE USER TIME PATH NAME PERMISSION\n"
-    "request NUMBER D ROLE USER TIME PATH NAME VALUE PERMISSION\n"
+    "add-image: D ROLE USER TIME PATH IMAGE\n"
+    "request NUMBER D ROLE USER TIME PATH NAME VALUE PERMISSION [IMAGE]\n"
     "store D FILE | show D | help; an IMAGE may be written as @FILE\n";
 
 static struct session session;

@@ -44,7 +44,8 @@ static const struct form forms[] = {
     {"add-permission", CALL_REQUEST, 14, "drutpnRAUFLMG", 0},
     {"delete-permission", CALL_REQUEST, 15, "drutpnRAUFLMG", 0},
     {"delegate", CALL_REQUEST, 16, "drutpnRAUFLMG", 0},
-    {"request", CALL_REQUEST, 0, "#drutpnvRAUFLMG", 0},
+    {"add-image", CALL_REQUEST, 17, "drutpi", 0},
+    {"request", CALL_REQUEST, 0, "#drutpnvRAUFLMG|i", 0},
 };
 
 /* The next word of a line; an empty one at its end. */
@@ -209,12 +210,13 @@ static bool get_file(const char *name, uint8_t *out, size_t room, size_t *len)
 
 static bool get_image(struct word w, struct line_call *c)
 {
-    c->image_len = 0;
+    struct request *r = &c->request;
+    r->image = c->bytes;
     if (is_word(w, "-"))
         return true;
     if (starts(&w, "@"))
-        return get_file_name(w, c->file) && get_file(c->file, c->image, sizeof c->image, &c->image_len);
-    return get_hex(w, c->image, sizeof c->image, &c->image_len);
+        return get_file_name(w, c->file) && get_file(c->file, c->bytes, sizeof c->bytes, &r->image_len);
+    return get_hex(w, c->bytes, sizeof c->bytes, &r->image_len);
 }
 
 static bool get_name(struct word w, uint16_t *name)

@@ -1,4 +1,4 @@
-/* The dossier editor of document 01, with Ask 1 of document 02, in plain C: the baseline that the proved editor is measured against.
+/* The dossier editor of document 01, with Asks 1 and 2 of document 02, in plain C: the baseline that the proved editor is measured against.
  * One session, altered where it stands; tables in arrays in image order; nothing is allocated. */
 #ifndef PLAIN_H
 #define PLAIN_H
@@ -76,14 +76,17 @@ struct request {
     uint16_t name;
     struct value value;
     struct permission permission;
+    const uint8_t *image; /* of a branch: nodes and attributes */
+    size_t image_len;
 };
 
-/* What a read answers; kept as it was by every other request and by a refusal. */
+/* What a read answers; kept as it was by every other request and by a refusal, but for the record of a bad image. */
 struct answer {
     uint8_t children;
     uint8_t name_count;
     uint16_t names[MAX_ATTRIBUTES_ON_NODE];
     struct value value;
+    size_t record; /* counted from 1, 0 for a bad length; after BAD_IMAGE alone */
 };
 
 /* An address: path length, six steps, name, role, action; numbers in the order of the image's bytes (keys.h). */
@@ -153,7 +156,7 @@ enum refusal plain_take_log(struct session *s, uint8_t *out, size_t out_len, siz
 enum refusal plain_ask(const uint8_t *image, size_t image_len, uint8_t role, uint8_t user, int64_t time,
                        const struct path *path, uint16_t name, uint8_t action, uint8_t *out, size_t out_len);
 
-/* The sixteen requests by their number; any other number is refused 1. */
+/* The seventeen requests by their number; any other number is refused 1. */
 enum refusal plain_request(struct session *s, const struct request *r, struct answer *a);
 
 enum refusal plain_read_node(struct session *s, const struct request *r, struct answer *a);
@@ -172,5 +175,6 @@ enum refusal plain_paste_attribute(struct session *s, const struct request *r);
 enum refusal plain_add_permission(struct session *s, const struct request *r);
 enum refusal plain_delete_permission(struct session *s, const struct request *r);
 enum refusal plain_delegate(struct session *s, const struct request *r);
+enum refusal plain_add_image(struct session *s, const struct request *r, struct answer *a);
 
 #endif

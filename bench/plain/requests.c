@@ -1,4 +1,4 @@
-/* The request number picks the rule. Each rule tests its refusals in the order of their numbers, then is carried out. */
+/* The request number picks the rule. Each rule tests its refusals in their order, then is carried out. */
 #include "call.h"
 
 static size_t bits_in(uint32_t set)
@@ -41,6 +41,7 @@ enum refusal plain_request(struct session *s, const struct request *r, struct an
     case 14: return plain_add_permission(s, r);
     case 15: return plain_delete_permission(s, r);
     case 16: return plain_delegate(s, r);
+    case 17: return plain_add_image(s, r, a);
     default: return BAD_OPERAND;
     }
 }

@@ -301,7 +301,7 @@ fn requests(d: Dossier, user: u8)
     requires { ⌜ DossierFits d ⌝ }
 {
     let mut number: u8 = 0;
-    while number < 18 {
+    while number < 19 {
         request(d, number, user);
         number += 1;
     }

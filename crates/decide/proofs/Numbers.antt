@@ -24,3 +24,8 @@ module _ (a : Asked) (d : Dossier) {r : Decision} where
   pub two : {j k : ℕ} → (a .number ≡ j) ⊎ (a .number ≡ k) → r ≡ decided a d j → r ≡ decided a d k → r ≡ decided a d (a .number)
   two (inl e) h g = one e h
   two (inr e) h g = one e g
+
+  -- three numbers of one arm
+  pub three : {j k l : ℕ} → (a .number ≡ j) ⊎ ((a .number ≡ k) ⊎ (a .number ≡ l)) → r ≡ decided a d j → r ≡ decided a d k → r ≡ decided a d l → r ≡ decided a d (a .number)
+  three (inl e) h g f = one e h
+  three (inr e) h g f = two e g f

@@ -144,7 +144,7 @@ pub fn granted(a: Asked, d: Dossier) -> Decision
     match number {
         1 | 5 => read_node(d, p, s),
         2 | 11 => read_attribute(d, p, a.name, s),
-        3 | 7 => change_node(d, parent_of(p), s),
+        3 | 7 | 17 => change_node(d, parent_of(p), s),
         4 => change_node(d, parent_of(p), s),
         6 => joined(read_node(d, p, s), change_node(d, parent_of(p), s)),
         8 | 13 => change_node(d, p, s),

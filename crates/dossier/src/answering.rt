@@ -6,7 +6,7 @@ use lines::calls::call_in;
 use lines::whys::TOO_LONG;
 use serve::answered;
 use serve::ask_image;
-use serve::load_image;
+use serve::call_image;
 use serve::renewed;
 use serve::requested;
 use serve::save;
@@ -36,12 +36,12 @@ fn look(
     let r = c.request;
     let kind = c.kind;
     match kind {
-        22 => save(s, c, lent, out),
-        23 => save_clipboard(s, c, lent, out),
-        25 => ask_image(c, line, number, image, lent, out),
-        26 => store(s, c, line, number, lent, out),
-        27 => show_dossier(s, r.dossier, out),
-        28 => help(),
+        23 => save(s, c, lent, out),
+        24 => save_clipboard(s, c, lent, out),
+        26 => ask_image(c, line, number, image, lent, out),
+        27 => store(s, c, line, number, lent, out),
+        28 => show_dossier(s, r.dossier, out),
+        29 => help(),
         _ => say_bad(number, c.why, out),
     }
 }
@@ -61,16 +61,16 @@ fn make_call(
     let r = c.request;
     let kind = c.kind;
     match kind {
-        18 => start_again(out),
-        19 => answered(renewed(s, r.dossier, r.user), b"", out),
-        20 => answered(signed(s, r.user, c.agreement), b"", out),
-        21 => load_image(s, c, line, number, image, out),
-        24 => take_log(s, c, lent, out),
-        0 | 22 | 23 | 25 | 26 | 27 | 28 => {
+        17 | 18 | 22 => call_image(s, c, line, number, image, out),
+        19 => start_again(out),
+        20 => answered(renewed(s, r.dossier, r.user), b"", out),
+        21 => answered(signed(s, r.user, c.agreement), b"", out),
+        25 => take_log(s, c, lent, out),
+        0 | 23 | 24 | 26 | 27 | 28 | 29 => {
             look(s, c, line, number, image, lent, out);
             s
         }
-        _ => answered(requested(s, r), b"", out),
+        _ => answered(requested(s, r, b""), b"", out),
     }
 }
 

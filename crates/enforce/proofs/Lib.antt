@@ -1,6 +1,3 @@
-pub mod Allowed
-pub mod Pasting
-pub mod Looked
-pub mod Left
 pub mod Judging
+pub mod Placing
 pub mod Kept

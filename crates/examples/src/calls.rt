@@ -33,7 +33,7 @@ pub fn asked(s: Session, r: Request) -> Stepped
     requires { ⌜ SessionSound s ⌝ }
     ensures { λ o. ⌜ SessionSound (o .session) ⌝ }
 {
-    via_request(s, r)
+    via_request(s, r, b"")
 }
 
 // What a request leaves.

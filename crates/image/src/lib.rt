@@ -33,7 +33,8 @@ fn is_bad_length(n: usize) -> bool
     (n == 0) | ((n % 40 != 0) | (17920 < n))
 }
 
-fn refused(number: usize) -> Loaded
+// The record that is bad, and no rows.
+pub fn refused(number: usize) -> Loaded
     ensures { λ r. ⌜ r ≡ loadedOf (images.bad number) ⌝ }
 {
     let none = Dossier {

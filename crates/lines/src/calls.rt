@@ -1,6 +1,6 @@
 // From a line to a call. Each operand has a letter; a call's form is the letters of its operands, in order.
 //
-//   # NUMBER  d D  o OWNER  r ROLE  u USER  t TIME  p PATH  n NAME  v VALUE  i IMAGE  f FILE  a ACTION  g AGREEMENT  s [ROOM]
+//   # NUMBER  d D  o OWNER  r ROLE  u USER  t TIME  p PATH  n NAME  v VALUE  i IMAGE  j [IMAGE]  f FILE  a ACTION  g AGREEMENT  s [ROOM]
 //   R ROLE  A ACTION  U USER  F FIRST  L LAST  M MESSAGES  G AGREEMENTS of a permission
 use crate::whys::TOO_FEW;
 use crate::whys::TOO_MANY;
@@ -30,34 +30,35 @@ use words::values::value_in;
 use words::word_of;
 use words::words_in;
 
-// Kinds 1 to 16 are the requests of that number by name.
+// Kinds 1 to 17 are the requests of that number by name.
 pub const BAD: u8 = 0;
 
-pub const REQUEST: u8 = 17;
+pub const REQUEST: u8 = 18;
 
-pub const START: u8 = 18;
+pub const START: u8 = 19;
 
-pub const NEW: u8 = 19;
+pub const NEW: u8 = 20;
 
-pub const SIGN: u8 = 20;
+pub const SIGN: u8 = 21;
 
-pub const LOAD: u8 = 21;
+pub const LOAD: u8 = 22;
 
-pub const SAVE: u8 = 22;
+pub const SAVE: u8 = 23;
 
-pub const CLIPBOARD: u8 = 23;
+pub const CLIPBOARD: u8 = 24;
 
-pub const LOG: u8 = 24;
+pub const LOG: u8 = 25;
 
-pub const ASK: u8 = 25;
+pub const ASK: u8 = 26;
 
-pub const STORE: u8 = 26;
+pub const STORE: u8 = 27;
 
-pub const SHOW: u8 = 27;
+pub const SHOW: u8 = 28;
 
-pub const HELP: u8 = 28;
+pub const HELP: u8 = 29;
 
-// The request has the operands of every call that are named as its own; an owner is its user. The word is an image or a file's name.
+// The request has the operands of every call that are named as its own; an owner is its user. The word is an image or a file's name,
+// and empty where a request names no image.
 pub struct Call {
     pub kind: u8,
     pub why: u8,
@@ -88,7 +89,7 @@ fn place_of(list: &[u8], name: &[u8]) -> u8 {
 
 fn kind_of(name: &[u8]) -> u8 {
     let list =
-        b"read-node read-attribute add-node delete-branch copy-branch cut-branch paste-branch add-attribute delete-attribute change-value copy-attribute cut-attribute paste-attribute add-permission delete-permission delegate request start new sign load save clipboard log ask store show help";
+        b"read-node read-attribute add-node delete-branch copy-branch cut-branch paste-branch add-attribute delete-attribute change-value copy-attribute cut-attribute paste-attribute add-permission delete-permission delegate add-image request start new sign load save clipboard log ask store show help";
     place_of(list, name)
 }
 
@@ -106,15 +107,16 @@ fn letter(kind: u8, i: usize) -> u8 {
         2 | 9 | 11 | 12 | 13 => letter_at(b"drutpn", i),
         8 | 10 => letter_at(b"drutpnv", i),
         14 | 15 | 16 => letter_at(b"drutpnRAUFLMG", i),
-        17 => letter_at(b"#drutpnvRAUFLMG", i),
-        19 => letter_at(b"do", i),
-        20 => letter_at(b"ug", i),
-        21 => letter_at(b"di", i),
-        22 => letter_at(b"ds", i),
-        23 | 24 => letter_at(b"s", i),
-        25 => letter_at(b"irutpnas", i),
-        26 => letter_at(b"df", i),
-        27 => letter_at(b"d", i),
+        17 => letter_at(b"drutpi", i),
+        18 => letter_at(b"#drutpnvRAUFLMGj", i),
+        20 => letter_at(b"do", i),
+        21 => letter_at(b"ug", i),
+        22 => letter_at(b"di", i),
+        23 => letter_at(b"ds", i),
+        24 | 25 => letter_at(b"s", i),
+        26 => letter_at(b"irutpnas", i),
+        27 => letter_at(b"df", i),
+        28 => letter_at(b"d", i),
         _ => 0,
     }
 }
@@ -122,9 +124,9 @@ fn letter(kind: u8, i: usize) -> u8 {
 // The room of a call that names none.
 fn usual_room(kind: u8) -> usize {
     match kind {
-        22 | 23 | 26 => 17920,
-        24 => 512,
-        25 => 8,
+        23 | 24 | 27 => 17920,
+        25 => 512,
+        26 => 8,
         _ => 0,
     }
 }
@@ -337,7 +339,7 @@ fn with_operand(c: Call, letter: u8, line: &[u8], w: Word) -> Call {
         b'n' => name_operand(c, s),
         b'v' => value_operand(c, s),
         b's' => room_operand(c, s),
-        b'i' | b'f' => word_operand(c, w),
+        b'i' | b'j' | b'f' => word_operand(c, w),
         0 => bad(c, TOO_MANY),
         _ => match byte_in(s) {
             Byte::Is(n) => byte_operand(c, letter, n),
@@ -352,7 +354,7 @@ fn operands(line: &[u8], ws: Words, kind: u8) -> Call {
     let mut c = begun(kind);
     let n = ws.count;
     let mut i: usize = 1;
-    while i < 17 {
+    while i < 18 {
         let l = letter(kind, i - 1);
         if n <= i {
             return ended(c, l);
@@ -366,12 +368,15 @@ fn operands(line: &[u8], ws: Words, kind: u8) -> Call {
     c
 }
 
-// A line may end where no operand is left, or where only the room is.
+// A line may end where no operand is left, or where only a room or an image is that may be left out.
 fn ended(c: Call, letter: u8) -> Call {
     if letter == 0 {
         return c;
     }
     if letter == b's' {
+        return c;
+    }
+    if letter == b'j' {
         return c;
     }
     bad(c, TOO_FEW)

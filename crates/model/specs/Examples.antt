@@ -76,6 +76,6 @@ abbrev pub blanks : ℕ → List Call
 blanks zero = plain 0 0 [] ∷ []
 blanks (suc n) = plain (suc n) 0 [] ∷ blanks n
 
-pub example13 : numbers (run (new 1 0 ∷ sign 0 3 ∷ blanks 17)) ≡ replicate 20 1
+pub example13 : numbers (run (new 1 0 ∷ sign 0 3 ∷ blanks 18)) ≡ replicate 21 1
 unfolding step
 example13 = refl

@@ -161,6 +161,35 @@ noRecords = record { nodes = []; attributes = []; permissions = [] }
 abbrev pub load : List ℕ → Loaded Dossier
 load b = loadFrom accept noRecords b
 
+-- ---- request 17's image: "an image of nodes and attributes without permissions"
+-- "Every object in it belongs to the adding user; the owners in the image are ignored but must be well formed", which a record's own rule has seen to
+abbrev pub withOwner : ℕ → Attribute → Attribute
+withOwner u a = record { name = a .name; owner = u; value = a .value }
+
+abbrev pub ownedNode : ℕ → Row ℕ → Row ℕ
+ownedNode u r = (r .0, u)
+
+abbrev pub ownedAttribute : ℕ → Row Attribute → Row Attribute
+ownedAttribute u r = (r .0, withOwner u (r .1))
+
+-- the same rules for any dossier: each record the user's, and no permission
+abbrev pub adding : {D : Type 0} → ℕ → (D → Record → Option D) → D → Record → Option D
+adding u accept d (nodeRecord r) = accept d (nodeRecord (ownedNode u r))
+adding u accept d (attributeRecord r) = accept d (attributeRecord (ownedAttribute u r))
+adding u accept d (permissionRecord r) = none
+
+-- "the first record that is bad or a permission", or what is placed
+abbrev pub loadAdded : ℕ → List ℕ → Loaded Dossier
+loadAdded u b = loadFrom (adding u accept) noRecords b
+
+-- the same in other words, which roundtrip proves: a dossier with every owner the user's, and how many records stand before the first permission
+abbrev pub allOwned : ℕ → Dossier → Dossier
+allOwned u d = record { nodes = map (ownedNode u) (d .nodes); attributes = map (ownedAttribute u) (d .attributes); permissions = d .permissions }
+
+abbrev pub beforePermissions : List (List ℕ) → ℕ
+beforePermissions [] = 0
+beforePermissions (b ∷ l) = pick (eqb (getD b 0 0) 3) 0 (suc (beforePermissions l))
+
 abbrev pub bytesOf : List Record → List ℕ
 bytesOf [] = []
 bytesOf (r ∷ l) = encode r ++ bytesOf l

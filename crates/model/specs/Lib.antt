@@ -7,3 +7,4 @@ pub mod Run
 pub mod Sound
 pub mod Starred
 pub mod Examples
+pub mod Branches

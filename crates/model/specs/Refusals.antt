@@ -55,7 +55,7 @@ pub record Found : Type 0 where
   pub siblings : ℕ
   pub sizes : Sizes
 
--- what the clipboard holds: whether a branch, whether an attribute, its sizes, the steps of its longest path
+-- what there is to paste, on the clipboard or as request 17's image: whether a branch, whether an attribute, its sizes, the steps of its longest path
 pub record Cached : Type 0 where
   pub branch : Bool
   pub attribute : Bool
@@ -120,7 +120,7 @@ grantGood r = leb (r .name) 65535 && permissionGood (r .name) (r .permission)
 abbrev pub ownGood : Request → Bool
 ownGood r =
     choose (r .number) false
-    ((1 ∷ 3 ∷ 4 ∷ 5 ∷ 6 ∷ 7 ∷ [], true)
+    ((1 ∷ 3 ∷ 4 ∷ 5 ∷ 6 ∷ 7 ∷ 17 ∷ [], true)
     ∷ (2 ∷ 9 ∷ 11 ∷ 12 ∷ 13 ∷ [], nameGood (r .name))
     ∷ (8 ∷ 10 ∷ [], nameGood (r .name) && valueGood (r .value))
     ∷ (14 ∷ 15 ∷ [], grantGood r)
@@ -130,13 +130,13 @@ ownGood r =
 abbrev pub badOperand : Request → Bool
 badOperand r = not (commonGood r && ownGood r)
 
--- ---- 2: "requests 3, 4, 6, 7 with the empty path"
+-- ---- 2: "requests 3, 4, 6, 7 with the empty path"; "the rest as for request 7"
 abbrev pub isRoot : Address → Bool
 isRoot [] = true
 isRoot (s ∷ p) = false
 
 abbrev pub atRoot : Request → Bool
-atRoot r = among (r .number) (3 ∷ 4 ∷ 6 ∷ 7 ∷ []) && isRoot (r .path)
+atRoot r = among (r .number) (3 ∷ 4 ∷ 6 ∷ 7 ∷ 17 ∷ []) && isRoot (r .path)
 
 -- ---- 3: "node, attribute, parent or exact permission absent; request 3 or 7 at a place beyond child count + 1"
 abbrev pub held : Permission → Option Object → Bool
@@ -148,19 +148,19 @@ absent r f =
     choose (r .number) false
     ((1 ∷ 4 ∷ 5 ∷ 6 ∷ 8 ∷ 13 ∷ [], missing (f .node))
     ∷ (2 ∷ 9 ∷ 10 ∷ 11 ∷ 12 ∷ [], missing (f .attribute))
-    ∷ (3 ∷ 7 ∷ [], missing (f .parent) || ltb (f .siblings + 1) (last (r .path)))
+    ∷ (3 ∷ 7 ∷ 17 ∷ [], missing (f .parent) || ltb (f .siblings + 1) (last (r .path)))
     ∷ (14 ∷ 16 ∷ [], missing (object r f))
     ∷ (15 ∷ [], not (held (r .permission) (object r f)))
     ∷ [])
 
--- ---- 4: "request 8 or 13: name already on the node"; 5: "request 7 or 13: clipboard of another kind or empty"
+-- ---- 4: "request 8 or 13: name already on the node"; 5: "request 7 or 13: clipboard of another kind or empty", request 17 "without 5"
 abbrev pub taken : Request → Found → Bool
 taken r f = among (r .number) (8 ∷ 13 ∷ []) && not (missing (f .attribute))
 
 abbrev pub wrongClipboard : Request → Cached → Bool
 wrongClipboard r c = choose (r .number) false ((7 ∷ [], not (c .branch)) ∷ (13 ∷ [], not (c .attribute)) ∷ [])
 
--- ---- 6: the column "Needs"
+-- ---- 6: the column "Needs"; request 17: "Needs as for request 3"
 abbrev pub granted : Request → Found → Option Provisions
 granted r f =
     let readNode = given (readBy (subject r)) (f .node) in
@@ -170,7 +170,7 @@ granted r f =
     choose (r .number) none
     ((1 ∷ 5 ∷ [], readNode)
     ∷ (2 ∷ 11 ∷ [], readAttribute)
-    ∷ (3 ∷ 4 ∷ 7 ∷ [], changeParent)
+    ∷ (3 ∷ 4 ∷ 7 ∷ 17 ∷ [], changeParent)
     ∷ (6 ∷ [], joined readNode changeParent)
     ∷ (8 ∷ 9 ∷ 13 ∷ [], changeNode)
     ∷ (10 ∷ 12 ∷ [], joined readAttribute changeNode)
@@ -228,7 +228,7 @@ abbrev pub totals : Request → Found → Cached → Totals
 totals r f c =
     choose (r .number) noneAdded
     ((3 ∷ [], withBranch (record { nodes = 1; attributes = 0; permissions = 0 }) 0 r f)
-    ∷ (7 ∷ [], withBranch (c .sizes) (c .height) r f)
+    ∷ (7 ∷ 17 ∷ [], withBranch (c .sizes) (c .height) r f)
     ∷ (8 ∷ [], withRows 1 0 f)
     ∷ (13 ∷ [], withRows 1 (c .sizes .permissions) f)
     ∷ (14 ∷ 16 ∷ [], withRows 0 1 f)

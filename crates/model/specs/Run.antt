@@ -13,7 +13,7 @@ use Rattle.model.specs.Things.{Value, Attribute, Dossier, Clipboard, emp
 use Rattle.model.specs.Decide.{Subject, Object, Provisions, joined, readBy, changeBy, given, members}
 use Rattle.model.specs.Moves as moves
 use Rattle.model.specs.Moves.{nodeAt, attributeAt, attributeObject, objectAt, namesOn, childCount, deepest}
-use Rattle.model.specs.Refusals.{Request, choose, Sizes, Found, Cached, missing, between, userGood, roleGood, timeGood, granted, provisions, firstThat, Standing, refusal}
+use Rattle.model.specs.Refusals.{Request, choose, Sizes, Found, Cached, missing, between, userGood, roleGood, timeGood, badOperand, granted, provisions, firstThat, Standing, refusal}
 use Rattle.model.specs.Image as images
 use Rattle.model.specs.Image.{Loaded, bad, good, bytes4, noRecords}
 
@@ -27,7 +27,7 @@ pub record Question : Type 0 where
   pub name : ℕ
   pub action : ℕ
 
--- every public call with its operands, images and lent buffers
+-- every public call with its operands, images and lent buffers; the image beside a request is request 17's, and no other looks at it
 pub data Call : Type 0 where
   start : Call
   new : ℕ → ℕ → Call
@@ -36,7 +36,7 @@ pub data Call : Type 0 where
   saveClipboard : List ℕ → Call
   sign : ℕ → ℕ → Call
   takeLog : List ℕ → Call
-  request : Request → Call
+  request : Request → List ℕ → Call
   ask : List ℕ → Question → List ℕ → Call
 
 -- done; a node's names and child count; an attribute's value; how many bytes were written; a refusal; refusal 12 with its record
@@ -150,13 +150,13 @@ cached (single a l) = record { branch = false; attribute = true; sizes = record 
 abbrev pub standing : Request → List ℕ → List (ℕ × ℕ) → Standing
 standing r rows log = record { signed = signedBy (r .user) rows; entries = length log }
 
--- the dossier afterwards
+-- the dossier afterwards, by what there is to paste
 abbrev pub edited : Request → Dossier → Clipboard → Dossier
 edited r =
     choose (r .number) (λ d c. d)
     ((3 ∷ [], λ d c. moves.addNode (r .path) (r .user) d)
     ∷ (4 ∷ 6 ∷ [], λ d c. moves.deleteBranch (r .path) d)
-    ∷ (7 ∷ [], λ d c. moves.pastedBranch (r .path) d c)
+    ∷ (7 ∷ 17 ∷ [], λ d c. moves.pastedBranch (r .path) d c)
     ∷ (8 ∷ [], λ d c. moves.withAttribute (r .path) (record { name = r .name; owner = r .user; value = r .value }) d)
     ∷ (9 ∷ 12 ∷ [], λ d c. moves.deleteAttribute (r .path) (r .name) d)
     ∷ (10 ∷ [], λ d c. moves.changeValue (r .path) (r .name) (r .value) d)
@@ -183,19 +183,41 @@ abbrev pub answered : Request → Found → Option Attribute → Answer
 answered r f a = choose (r .number) done ((1 ∷ [], contents (f .names) (f .children)) ∷ (2 ∷ [], valueOf a) ∷ [])
 
 -- "Otherwise messages are logged once each, ascending, and the request is carried out"
-abbrev pub carriedOut : State → Request → Found → Dossier → State × Answer
-carriedOut s r f d = (
+abbrev pub carriedOut : State → Request → Found → Dossier → Clipboard → State × Answer
+carriedOut s r f d c = (
   withLog (logged (r .user) (provisions (granted r f) .messages) (s .log))
-      (withClipboard (clipped r d (s .clipboard)) (withDossier (r .dossier) (edited r d (s .clipboard)) s)),
+      (withClipboard (clipped r d (s .clipboard)) (withDossier (r .dossier) (edited r d c) s)),
   answered r f (attributeAt (r .path) (r .name) d),
 )
 
-abbrev pub requested : State → Request → State × Answer
-requested s r =
-    elim (refusal r (found r (dossier (r .dossier) s)) (cached (s .clipboard)) (standing r (s .signatures) (s .log))) [
-      | none ↦ carriedOut s r (found r (dossier (r .dossier) s)) (dossier (r .dossier) s)
+-- a request that pastes from c, if it pastes
+abbrev pub requestedFrom : State → Request → Clipboard → State × Answer
+requestedFrom s r c =
+    elim (refusal r (found r (dossier (r .dossier) s)) (cached c) (standing r (s .signatures) (s .log))) [
+      | none ↦ carriedOut s r (found r (dossier (r .dossier) s)) (dossier (r .dossier) s) c
       | some n ↦ (s, refused n)
     ]
+
+-- request 17 looks at its image: "tested after 1"
+abbrev pub places : Request → Bool
+places r = eqb (r .number) 17 && not (badOperand r)
+
+-- "placed as a branch"
+abbrev pub asBranch : Loaded Dossier → Loaded Clipboard
+asBranch (bad k) = bad k
+asBranch (good d) = good (branch d)
+
+-- what there is to paste: request 17's image, for every other the clipboard (as for 17 with a bad operand, which is refused 1)
+abbrev pub source : State → Request → List ℕ → Loaded Clipboard
+source s r image = pick (places r) (asBranch (images.loadAdded (r .user) image)) (good (s .clipboard))
+
+-- "12, with the first record that is bad or a permission"; "the rest as for request 7"
+abbrev pub requestedWith : State → Request → Loaded Clipboard → State × Answer
+requestedWith s r (bad k) = (s, badRecord k)
+requestedWith s r (good c) = requestedFrom s r c
+
+abbrev pub requested : State → Request → List ℕ → State × Answer
+requested s r image = requestedWith s r (source s r image)
 
 -- ---- ask
 abbrev pub badQuestion : Question → Bool
@@ -261,7 +283,7 @@ step s (saveClipboard buffer) =
     let bytes = images.saveClipboard (s .clipboard) in writes (firstThat ((9, short bytes buffer) ∷ [])) s s bytes buffer
 step s (sign user agreement) = orRefused (firstThat ((1, not (userGood user && leb agreement 31)) ∷ [])) s (withSignatures (signed user agreement (s .signatures)) s) done
 step s (takeLog buffer) = let bytes = logBytes (s .log) in writes (firstThat ((9, short bytes buffer) ∷ [])) s (withLog [] s) bytes buffer
-step s (request r) = let out = requested s r in (out .0, reply (out .1) [])
+step s (request r image) = let out = requested s r image in (out .0, reply (out .1) (image ∷ []))
 step s (ask image q buffer) = (s, asked image q buffer (imageOf (images.load image)))
 
 -- the replies to a list of calls, one after another

@@ -78,7 +78,7 @@ example6 = not (matchesAt (negsuc 0)) ∷ matchesAt (pos 0) ∷ matchesAt (pos 1
 -- a request on dossier 1 at time 0, by number, role, user, path and permission
 abbrev pub asks : ℕ → ℕ → ℕ → Address → Permission → Call
 asks number role user path p =
-    request (record { number = number; dossier = 1; role = role; user = user; time = pos 0; path = path; name = 0; value = whole 0; permission = p })
+    request (record { number = number; dossier = 1; role = role; user = user; time = pos 0; path = path; name = 0; value = whole 0; permission = p }) []
 
 abbrev pub always : ℕ → ℕ → Permission
 always role action = permit role action 0 (pos 0) (pos 100)
@@ -128,7 +128,7 @@ example10 = answers (asks 14 1 1 [] (always 2 2) ∷ asks 3 2 5 (1 ∷ []) noPer
 -- a request on an attribute, by number, role, user, path and name
 abbrev pub asksOf : ℕ → ℕ → ℕ → Address → ℕ → Call
 asksOf number role user path name =
-    request (record { number = number; dossier = 1; role = role; user = user; time = pos 0; path = path; name = name; value = whole 0; permission = noPermission })
+    request (record { number = number; dossier = 1; role = role; user = user; time = pos 0; path = path; name = name; value = whole 0; permission = noPermission }) []
 
 -- "Pasting makes nobody an owner": user 1's node and attribute, copied by him and pasted by user 5, who may change the root, are read by user 1 and not by user 5
 abbrev pub pasting : List Call

@@ -98,6 +98,7 @@ pub fn own_good(r: Request) -> bool
         14 => grant_good(r),
         15 => grant_good(r),
         16 => delegated_good(r),
+        17 => true,
         _ => false,
     }
 }

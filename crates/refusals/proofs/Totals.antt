@@ -15,9 +15,9 @@ picked g false h k = k
 
 module _ (r : Request) (f : Found) (c : Cached) (g : Totals → Bool) (none : g noneAdded ≡ false) where
   -- what only a branch adds
-  pub no-branch : ((a p : ℕ) → g (withRows a p f) ≡ false) → (r .number ≡ 3 → ⊥) → (r .number ≡ 7 → ⊥) → g (totals r f c) ≡ false
-  no-branch rows x3 x7 =
-      rw (ne-eqb (r .number) 3 x3, ne-eqb (r .number) 7 x7)
+  pub no-branch : ((a p : ℕ) → g (withRows a p f) ≡ false) → (r .number ≡ 3 → ⊥) → (r .number ≡ 7 → ⊥) → (r .number ≡ 17 → ⊥) → g (totals r f c) ≡ false
+  no-branch rows x3 x7 x17 =
+      rw (ne-eqb (r .number) 3 x3, ne-eqb (r .number) 7 x7, ne-eqb (r .number) 17 x17)
       (picked g (among (r .number) (8 ∷ [])) (rows 1 0)
       (picked g (among (r .number) (13 ∷ [])) (rows 1 (c .sizes .permissions)) (picked g (among (r .number) (14 ∷ 16 ∷ [])) (rows 0 1) none)))
 
@@ -26,18 +26,18 @@ module _ (r : Request) (f : Found) (c : Cached) (g : Totals → Bool) (none : g 
       → (r .number ≡ 8 → ⊥) → (r .number ≡ 13 → ⊥) → (r .number ≡ 14 → ⊥) → (r .number ≡ 16 → ⊥) → g (totals r f c) ≡ false
   no-rows branch x8 x13 x14 x16 =
       rw (ne-eqb (r .number) 8 x8, ne-eqb (r .number) 13 x13, ne-eqb (r .number) 14 x14, ne-eqb (r .number) 16 x16)
-      (picked g (among (r .number) (3 ∷ [])) (branch (record { nodes = 1; attributes = 0; permissions = 0 }) 0) (picked g (among (r .number) (7 ∷ [])) (branch (c .sizes) (c .height)) none))
+      (picked g (among (r .number) (3 ∷ [])) (branch (record { nodes = 1; attributes = 0; permissions = 0 }) 0) (picked g (among (r .number) (7 ∷ 17 ∷ [])) (branch (c .sizes) (c .height)) none))
 
 module _ (r : Request) (f : Found) (c : Cached) where
-  pub no-attributes : f .sizes .attributes ≤ 256 → (r .number ≡ 7 → ⊥) → (r .number ≡ 8 → ⊥) → (r .number ≡ 13 → ⊥) → attributesOver (totals r f c .attributes) ≡ false
-  no-attributes room x7 x8 x13 =
+  pub no-attributes : f .sizes .attributes ≤ 256 → (r .number ≡ 7 → ⊥) → (r .number ≡ 17 → ⊥) → (r .number ≡ 8 → ⊥) → (r .number ≡ 13 → ⊥) → attributesOver (totals r f c .attributes) ≡ false
+  no-attributes room x7 x17 x8 x13 =
       let full : ltb 256 (f .sizes .attributes + 0) ≡ false = le-ltb 256 (f .sizes .attributes + 0) (omega arith) in
-      rw (ne-eqb (r .number) 7 x7, ne-eqb (r .number) 8 x8, ne-eqb (r .number) 13 x13)
+      rw (ne-eqb (r .number) 7 x7, ne-eqb (r .number) 17 x17, ne-eqb (r .number) 8 x8, ne-eqb (r .number) 13 x13)
       (picked (λ (t : Totals). attributesOver (t .attributes)) (among (r .number) (3 ∷ [])) full (picked (λ (t : Totals). attributesOver (t .attributes)) (among (r .number) (14 ∷ 16 ∷ [])) full refl))
 
-  pub no-permissions : f .sizes .permissions ≤ 128 → (r .number ≡ 7 → ⊥) → (r .number ≡ 13 → ⊥) → (r .number ≡ 14 → ⊥) → (r .number ≡ 16 → ⊥)
+  pub no-permissions : f .sizes .permissions ≤ 128 → (r .number ≡ 7 → ⊥) → (r .number ≡ 17 → ⊥) → (r .number ≡ 13 → ⊥) → (r .number ≡ 14 → ⊥) → (r .number ≡ 16 → ⊥)
       → permissionsOver (totals r f c .permissions) ≡ false
-  no-permissions room x7 x13 x14 x16 =
+  no-permissions room x7 x17 x13 x14 x16 =
       let full : ltb 128 (f .sizes .permissions + 0) ≡ false = le-ltb 128 (f .sizes .permissions + 0) (omega arith) in
-      rw (ne-eqb (r .number) 7 x7, ne-eqb (r .number) 13 x13, ne-eqb (r .number) 14 x14, ne-eqb (r .number) 16 x16)
+      rw (ne-eqb (r .number) 7 x7, ne-eqb (r .number) 17 x17, ne-eqb (r .number) 13 x13, ne-eqb (r .number) 14 x14, ne-eqb (r .number) 16 x16)
       (picked (λ (t : Totals). permissionsOver (t .permissions)) (among (r .number) (3 ∷ [])) full (picked (λ (t : Totals). permissionsOver (t .permissions)) (among (r .number) (8 ∷ [])) full refl))

@@ -25,7 +25,7 @@ pub struct Placed {
     pub permission: Grant,
 }
 
-// What the clipboard holds: whether a branch, whether an attribute, its sizes, the steps of its longest path.
+// What there is to paste, on the clipboard or in request 17's image: whether a branch, whether an attribute, its sizes, the steps of its longest path.
 pub struct Cache {
     pub branch: bool,
     pub attribute: bool,

@@ -50,13 +50,13 @@ pub fn placed(r: Request) -> Placed
     }
 }
 
-// Requests 3, 4, 6 and 7 with the empty path.
+// Requests 3, 4, 6, 7 and 17 with the empty path.
 pub fn at_root(q: Placed) -> bool
     requires { ⌜ PathSound (q .path) ⌝ }
     ensures { λ b. ⌜ b ≡ refusals.atRoot (viewPlaced q) ⌝ }
 {
     let n = q.number;
-    let moves = (n == 3) | ((n == 4) | ((n == 6) | (n == 7)));
+    let moves = (n == 3) | ((n == 4) | ((n == 6) | ((n == 7) | (n == 17))));
     moves & (size(q.path) == 0)
 }
 
@@ -127,7 +127,7 @@ pub fn absent(d: Dossier, q: Placed) -> bool
         5 => no_node(d, p),
         2 | 9 | 11 => no_attribute(d, p, q.name),
         10 | 12 => no_attribute(d, p, q.name),
-        3 | 7 => no_place(d, p),
+        3 | 7 | 17 => no_place(d, p),
         14 | 16 => no_object(d, p, q.name),
         15 => no_permission(d, p, q.name, g),
         _ => false,
@@ -148,7 +148,7 @@ pub fn taken(d: Dossier, q: Placed) -> bool
     false
 }
 
-// Request 7 or 13: a clipboard of another kind, or empty.
+// Request 7 or 13: a clipboard of another kind, or empty. Request 17 has its image.
 pub fn wrong_clipboard(c: Cache, q: Placed) -> bool
     ensures { λ b. ⌜ b ≡ refusals.wrongClipboard (viewPlaced q) (viewCache c) ⌝ }
 {

@@ -92,7 +92,7 @@ fn nodes_full(d: Dossier, c: Cache, q: Placed) -> bool
     let number = q.number;
     match number {
         3 => nodes_over(d.nodes.count + 1),
-        7 => nodes_over(d.nodes.count + c.nodes),
+        7 | 17 => nodes_over(d.nodes.count + c.nodes),
         _ => false,
     }
 }
@@ -104,7 +104,7 @@ fn depth_full(d: Dossier, c: Cache, q: Placed) -> bool
     let number = q.number;
     match number {
         3 => depth_over(size(q.path)),
-        7 => depth_over(size(q.path) + c.height),
+        7 | 17 => depth_over(size(q.path) + c.height),
         _ => false,
     }
 }
@@ -115,7 +115,7 @@ fn children_full(d: Dossier, c: Cache, q: Placed) -> bool
 {
     let number = q.number;
     match number {
-        3 | 7 => children_over(children_in(d.nodes, parent_of(q.path)) + 1),
+        3 | 7 | 17 => children_over(children_in(d.nodes, parent_of(q.path)) + 1),
         _ => false,
     }
 }
@@ -126,7 +126,7 @@ fn attributes_full(d: Dossier, c: Cache, q: Placed) -> bool
 {
     let number = q.number;
     match number {
-        7 => attributes_over(d.attributes.count + c.attributes),
+        7 | 17 => attributes_over(d.attributes.count + c.attributes),
         8 | 13 => attributes_over(d.attributes.count + 1),
         _ => false,
     }
@@ -150,7 +150,7 @@ fn permissions_full(d: Dossier, c: Cache, q: Placed) -> bool
 {
     let number = q.number;
     match number {
-        7 | 13 => permissions_over(d.permissions.count + c.permissions),
+        7 | 13 | 17 => permissions_over(d.permissions.count + c.permissions),
         14 | 16 => permissions_over(d.permissions.count + 1),
         _ => false,
     }

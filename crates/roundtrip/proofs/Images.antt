@@ -28,7 +28,7 @@ pub bytes-join : (rs : List Record) → bytesOf rs ≡ join (map encode rs)
 bytes-join [] = refl
 bytes-join (r ∷ rs) = ap (λ (b : List ℕ). encode r ++ b) (bytes-join rs)
 
-records-length : (n : ℕ) (b : List ℕ) → length (records n b) ≡ n
+pub records-length : (n : ℕ) (b : List ℕ) → length (records n b) ≡ n
 records-length zero b = refl
 records-length (suc n) b = ap suc (records-length n (drop 40 b))
 

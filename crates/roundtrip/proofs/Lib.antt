@@ -13,3 +13,5 @@ pub mod Kept
 pub mod SaveLoad
 pub mod Cached
 pub mod Append
+pub mod Owned
+pub mod Adding

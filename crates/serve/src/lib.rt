@@ -8,6 +8,7 @@ use ask::dossier_ask;
 use files::image_in;
 use files::stored;
 use lines::calls::Call;
+use lines::calls::LOAD;
 use lines::whys::NOT_WRITTEN;
 use lines::whys::put_bad;
 use parse::numbers::read4;
@@ -50,11 +51,11 @@ pub fn fresh() -> Session
     start()
 }
 
-pub fn requested(s: Session, r: Request) -> Stepped
+pub fn requested(s: Session, r: Request, image: &[u8]) -> Stepped
     requires { ⌜ SessionSound s ⌝ }
     ensures { λ o. ⌜ SessionSound (o .session) ⌝ }
 {
-    via_request(s, r)
+    via_request(s, r, image)
 }
 
 pub fn renewed(s: Session, n: u8, owner: u8) -> Stepped
@@ -104,16 +105,29 @@ pub fn start_again(out: &mut [u8]) -> Session
     fresh()
 }
 
-fn load_bytes(s: Session, n: u8, image: &[u8], len: usize, out: &mut [u8]) -> Session
+// The call that an image goes with: a load, else a request.
+fn called(s: Session, c: Call, image: &[u8]) -> Stepped
+    requires { ⌜ SessionSound s ⌝ }
+    ensures { λ o. ⌜ SessionSound (o .session) ⌝ }
+{
+    let r = c.request;
+    if c.kind == LOAD {
+        return loaded(s, r.dossier, image);
+    }
+    requested(s, r, image)
+}
+
+fn call_bytes(s: Session, c: Call, image: &[u8], len: usize, out: &mut [u8]) -> Session
     requires { ⌜ SessionSound s ⌝ }
     ensures { λ r. ⌜ SessionSound r ⌝ }
 {
     let bytes = Word { start: 0, end: len };
-    let o = loaded(s, n, word_of(image, bytes));
+    let o = called(s, c, word_of(image, bytes));
     answered(o, b"", out)
 }
 
-pub fn load_image(
+// A load, or a request with an image. A word that is left out is empty, which reads as no bytes.
+pub fn call_image(
     s: Session,
     c: Call,
     line: &[u8],
@@ -129,8 +143,7 @@ pub fn load_image(
         say_bad(number, i.why, out);
         return s;
     }
-    let r = c.request;
-    load_bytes(s, r.dossier, image, i.len, out)
+    call_bytes(s, c, image, i.len, out)
 }
 
 pub fn take_log(s: Session, c: Call, lent: &mut [u8], out: &mut [u8]) -> Session

@@ -7,16 +7,18 @@ use Prim.Native.Nat.{ℕ}
 use lib.Dec.{T}
 use lib.ListN.{length, take}
 use Rattle.path.specs.Address.{Address}
-use Rattle.model.specs.Things.{fresh}
+use Rattle.model.specs.Things.{Clipboard, fresh}
 use Rattle.model.specs.Decide.{Subject, Object, Provisions, nothing, readBy, changeBy, ownBy, delegateBy}
-use Rattle.model.specs.Moves.{objectAt}
+use Rattle.model.specs.Moves.{objectAt, pasteBranch}
 use Rattle.model.specs.Refusals.{Request}
-use Rattle.model.specs.Run.{Call, load, save, request, dossierGood, dossier, found, carriedOut}
+use Rattle.model.specs.Image.{bad, good, allOwned}
+use Rattle.model.specs.Run.{Call, load, save, request, done, dossierGood, dossier, found, source, carriedOut}
 use Rattle.twin.specs.Twin.{runTwin}
-use Rattle.twin.proofs.Refusal.{judged, lentBy}
+use Rattle.twin.proofs.Refusal.{judged, JudgedSo, lentBy}
+use Rattle.twin.proofs.Placed.{pasted, IsPaste}
 use Rattle.twin.proofs.Decision.{OwnedOr, OneMatches, TwoMatch, read-exactly, change-exactly, own-exactly, delegate-exactly}
 use Rattle.state.specs.declared.Session.{Session}
-use Rattle.state.specs.declared.Outcome.the-variants.{Done, Wrote, Refused}
+use Rattle.state.specs.declared.Outcome.the-variants.{Done, Wrote, Refused, BadRecord}
 use Rattle.state.specs.declared.Answer.{Answer}
 use Rattle.state.specs.View.{viewSession, sessionOf, answerOf, SessionSound}
 use Rattle.state.specs.Calls.{onlyBuffer, Steps, Writes}
@@ -24,7 +26,7 @@ use Rattle.state.proofs.Sessions.{state-sound}
 use Rattle.state.specs.Parts.{numberedIn}
 use Rattle.enforce.proofs.Kept.{start-sound, call-sound}
 use Rattle.session.specs.Promises.{Refuses, Gave, gaveOf, Ran}
-use Rattle.session.proofs.Refused.{session-stays, buffer-stays, request-refused, request-carried}
+use Rattle.session.proofs.Refused.{session-stays, buffer-stays, request-refused, request-bad, request-carried, request-placed}
 use Rattle.session.proofs.Trips.{dossier-sound, saved-loads, loaded-saves}
 use Rattle.session.proofs.Runs.{ran-alike}
 use Rattle.session.proofs.Granted.{object-no-clash}
@@ -41,10 +43,17 @@ demand1 = record { started = start-sound; kept = λ s c a t h p. subst SessionSo
 
 -- ---- 2: decisions and states are those of document 01
 pub record Demand2 : Type 0 where
-  -- a request is refused n exactly where the table says so, and else carried out
-  pub refused : (s : Session) (r : Request) (a : Answer) (t : Session) → Steps s (request r) a t → (n : ℕ) → (a .outcome ≡ Refused n) ↔ (judged (viewSession s) r ≡ some n)
-  pub carried : (s : Session) (r : Request) (a : Answer) (t : Session) → Steps s (request r) a t → judged (viewSession s) r ≡ none
-      → let d = dossier (r .dossier) (viewSession s) in (a ≡ answerOf (carriedOut (viewSession s) r (found r d) d .1)) × (t ≡ sessionOf (carriedOut (viewSession s) r (found r d) d .0))
+  -- a request is refused n exactly where the table says so, 12 with a record exactly where request 17's image is bad there, and else carried out; c is what there is to paste
+  pub refused : (s : Session) (r : Request) (image : List ℕ) (a : Answer) (t : Session) → Steps s (request r image) a t → (n : ℕ) → (a .outcome ≡ Refused n) ↔ JudgedSo (viewSession s) r image n
+  pub bad-image : (s : Session) (r : Request) (image : List ℕ) (a : Answer) (t : Session) → Steps s (request r image) a t → (k : ℕ) → (a .outcome ≡ BadRecord k) ↔ (source (viewSession s) r image ≡ bad k)
+  pub carried : (s : Session) (r : Request) (image : List ℕ) (a : Answer) (t : Session) → Steps s (request r image) a t
+      → (c : Clipboard) → source (viewSession s) r image ≡ good c → judged (viewSession s) r c ≡ none
+      → let d = dossier (r .dossier) (viewSession s) in
+      (a ≡ answerOf (carriedOut (viewSession s) r (found r d) d c .1)) × (t ≡ sessionOf (carriedOut (viewSession s) r (found r d) d c .0))
+  -- request 17, if not refused, is the paste of what its image loads as with every owner the adding user's
+  pub placed : (s : Session) (r : Request) (image : List ℕ) (a : Answer) (t : Session) → Steps s (request r image) a t → r .number ≡ 17 → (Refuses a → ⊥)
+      → (w : IsPaste (viewSession s) r image) × (a ≡ answerOf done)
+      × (t ≡ sessionOf (pasted (viewSession s) r (pasteBranch (r .path) (allOwned (r .user) (w .held)) (dossier (r .dossier) (viewSession s)))))
   -- on an object of the session: the owner, or the permissions that match, and nobody else
   pub read : (s : Session) → SessionSound s → (n : ℕ) (p : Address) (name : ℕ) (o : Object) → objectAt p name (dossier n (viewSession s)) ≡ some o
       → (u : Subject) (π : Provisions) → (readBy u o ≡ some π) ↔ OwnedOr u o π (OneMatches u 1 (o .permissions) π)
@@ -62,7 +71,9 @@ pub record Demand2 : Type 0 where
 pub demand2 : Demand2
 demand2 = record {
   refused = request-refused;
+  bad-image = request-bad;
   carried = request-carried;
+  placed = request-placed;
   read = λ s h n p name o e u π. read-exactly u o (object-no-clash (dossier n (viewSession s)) (dossier-sound n (state-sound s h)) p name o e) π;
   change = λ s h n p name o e u π. change-exactly u o (object-no-clash (dossier n (viewSession s)) (dossier-sound n (state-sound s h)) p name o e) π;
   own = own-exactly;

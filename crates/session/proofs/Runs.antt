@@ -81,7 +81,7 @@ module _ (s : Session) (h : SessionSound s) (g : Gave) (t : Session) where
       let o = firstThat ((9, short bytes buffer) ∷ []) in
       let y = run.withLog [] all in
       (gave g (writes o all y bytes buffer .1) (p .1 .0) (p .3 ∙ ap (λ (z : List ℕ). z ∷ []) (p .2) ∙ writes-lent o all y bytes buffer), p .1 .1)
-  as-promised (request r) p = (gave g (step all (request r) .1) (p .0 .0) (p .1), p .0 .1)
+  as-promised (request r image) p = (gave g (step all (request r image) .1) (p .0 .0) (p .1), p .0 .1)
   as-promised (ask image q buffer) p = (p .0, p .1 ∙ sym (session-back s h))
 
 -- ---- a run

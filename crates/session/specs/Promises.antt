@@ -40,7 +40,7 @@ Promised s (save n buffer) g t = (b : List ℕ) × Writes s (save n buffer) (g .
 Promised s (saveClipboard buffer) g t = (b : List ℕ) × Writes s (saveClipboard buffer) (g .answer) b × (g .lent ≡ b ∷ []) × (t ≡ s)
 Promised s (sign user agreement) g t = Steps s (sign user agreement) (g .answer) t × (g .lent ≡ [])
 Promised s (takeLog buffer) g t = (b : List ℕ) × Steps s (takeLog buffer) (g .answer) t × (b ≡ bufferAfter s (takeLog buffer)) × (g .lent ≡ b ∷ [])
-Promised s (request r) g t = Steps s (request r) (g .answer) t × (g .lent ≡ [])
+Promised s (request r image) g t = Steps s (request r image) (g .answer) t × (g .lent ≡ image ∷ [])
 Promised s (ask image q buffer) g t = (g ≡ gaveOf (step fresh (ask image q buffer) .1)) × (t ≡ s)
 
 -- these calls, one after another from the session s, gave this

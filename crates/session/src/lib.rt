@@ -17,12 +17,12 @@ pub fn start() -> Session
     unguarded::start()
 }
 
-// A guarded request.
-pub fn request(s: &mut Session, r: Request) -> Answer
+// A guarded request. The image is request 17's; no other looks at it.
+pub fn request(s: &mut Session, r: Request, image: &[u8]) -> Answer
     requires { ⌜ SessionSound (now s) ⌝ }
-    ensures { λ a. ⌜ Steps (now (s .entry)) (run.request (viewRequest r)) a (now (s .exit)) ⌝ }
+    ensures { λ a. ⌜ Steps (now (s .entry)) (run.request (viewRequest r) (now (image .entry))) a (now (s .exit)) ⌝ }
 {
-    let out = enforce::requested(*s, r);
+    let out = enforce::requested(*s, r, image);
     *s = out.session;
     out.answer
 }
@@ -88,12 +88,12 @@ pub fn take_log(s: &mut Session, out: &mut [u8]) -> Answer
 
 // ---- by value
 
-pub fn via_request(s: Session, r: Request) -> Stepped
+pub fn via_request(s: Session, r: Request, image: &[u8]) -> Stepped
     requires { ⌜ SessionSound s ⌝ }
-    ensures { λ o. ⌜ o ≡ steppedOf s (run.request (viewRequest r)) ⌝ }
+    ensures { λ o. ⌜ o ≡ steppedOf s (run.request (viewRequest r) (now (image .entry))) ⌝ }
 {
     let mut t = s;
-    let a = request(&mut t, r);
+    let a = request(&mut t, r, image);
     Stepped {
         session: t,
         answer: a,

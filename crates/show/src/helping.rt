@@ -19,7 +19,8 @@ pub fn help() {
     );
     say(b"  add-attribute, change-value: D ROLE USER TIME PATH NAME VALUE\n");
     say(b"  add-permission, delete-permission, delegate: D ROLE USER TIME PATH NAME PERMISSION\n");
-    say(b"  request NUMBER D ROLE USER TIME PATH NAME VALUE PERMISSION\n");
+    say(b"  add-image D ROLE USER TIME PATH IMAGE\n");
+    say(b"  request NUMBER D ROLE USER TIME PATH NAME VALUE PERMISSION [IMAGE]\n");
     say(b"  store D FILE | show D | help\n");
     say(
         b"PATH is / or steps as 2.1.4; NAME 0 is the node itself; VALUE is whole:N or reading:H, H eight hex digits\n",

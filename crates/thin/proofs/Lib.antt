@@ -9,7 +9,6 @@ pub mod PartLoad
 pub mod PartOut
 pub mod PartSaveShr
 pub mod PartClipShr
-pub mod Lent
 pub mod LentTwo
 pub mod LentLoad
 pub mod LentOut

@@ -1,14 +1,14 @@
 -- Who is granted what, and with which provisions: exactly the owner, or the permission that matches, of which there is at most one. Assumes nothing.
 use mathlib.Core.Path.{_≡_, refl, sym, ap, ap₂, subst, _∙_}
 use mathlib.Core.Logic.{_⊎_, inl, inr, _↔_, _≢_}
-use mathlib.Core.Bool.{Bool, false, _&&_, _||_}
+use mathlib.Core.Bool.{Bool, false, not, _&&_, _||_}
 use mathlib.Core.Option.{Option, none, some, Option·some-injective, Option·none-ne-some}
 use mathlib.Core.List.{List, [], _∷_, List·Memᴰ·head, List·Memᴰ·tail}
 use Prim.Native.Nat.{ℕ}
 use native.Mathlib.Nat.{le-trans}
 use lib.IntN.{ℤ, pos, negsuc}
 use lib.Signed.{leZ}
-use lib.Dec.{T, eqb, leb, leb→le, le→leb, eqb→eq, not-T}
+use lib.Dec.{T, eqb, leb, leb→le, le→leb, eqb→eq, T-not, not-T}
 use mir.Facts.{and-yes, yes-and, or-yes, yes-eqb}
 use Rattle.laws.specs.Slots.{pick}
 use Rattle.laws.specs.Sorted.{_∈_}
@@ -21,7 +21,7 @@ use Rattle.model.specs.Run.{Question, request, ask, Answer, refused, Reply, rep
 use Rattle.roundtrip.proofs.Checks.{or-left, or-right}
 use Rattle.twin.specs.Good.{NoClash}
 use Rattle.twin.proofs.KeepNode.{one-clashes}
-use Rattle.twin.proofs.Refusal.{refused-by, ask-refused-by}
+use Rattle.twin.proofs.Refusal.{refused-so, unread, ask-refused-by}
 
 -- ---- "No dossier ever holds a clash, so at most one matches"
 time-trans : (a b c : ℤ) → T (leZ a b) → T (leZ b c) → T (leZ a c)
@@ -216,8 +216,14 @@ blank-fails : (u : ℕ) (a b : Bool) → u ≡ 0 → T (a && (userGood u && b)) 
 blank-fails u a b e t = subst (λ (n : ℕ). T (userGood n)) e (and-yes (userGood u) b (and-yes a (userGood u && b) t .1) .0)
 
 -- no state and no permission makes it granted
-pub blank-user : (s : State) (r : Request) → r .user ≡ 0 → requested s r ≡ (s, refused 1)
-blank-user s r e = refused-by s r 1 (pick-yes (badOperand r) (some 1) _ (not-T (commonGood r && ownGood r) bad))
+pub blank-user : (s : State) (r : Request) (image : List ℕ) → r .user ≡ 0 → requested s r image ≡ (s, refused 1)
+blank-user s r image e =
+    let wrong = not-T (commonGood r && ownGood r) bad in
+    refused-so s r image 1 (
+      s .clipboard,
+      unread s r image (λ t. T-not (badOperand r) (and-yes (eqb (r .number) 17) (not (badOperand r)) t .1) wrong),
+      pick-yes (badOperand r) (some 1) _ wrong,
+    )
   where
     bad : T (commonGood r && ownGood r) → ⊥
     bad t =
@@ -225,9 +231,9 @@ blank-user s r e = refused-by s r 1 (pick-yes (badOperand r) (some 1) _ (not-T (
         blank-fails (r .user) (roleGood (r .role)) (timeGood (r .time) && valid (r .path)) e
         (and-yes (between 1 2 (r .dossier)) (roleGood (r .role) && (userGood (r .user) && (timeGood (r .time) && valid (r .path)))) (w .0) .1)
 
-pub blank-request : (s : State) (r : Request) → r .user ≡ 0 → step s (request r) ≡ (s, reply (refused 1) [])
+pub blank-request : (s : State) (r : Request) (image : List ℕ) → r .user ≡ 0 → step s (request r image) ≡ (s, reply (refused 1) (image ∷ []))
 unfolding step
-blank-request s r e = ap {B = State × Reply} (λ (out : State × Answer). (out .0, reply (out .1) [])) (blank-user s r e)
+blank-request s r image e = ap {B = State × Reply} (λ (out : State × Answer). (out .0, reply (out .1) (image ∷ []))) (blank-user s r image e)
 
 pub blank-question : (s : State) (image : List ℕ) (q : Question) (buffer : List ℕ) → q .user ≡ 0
     → step s (ask image q buffer) ≡ (s, reply (refused 1) (image ∷ buffer ∷ []))

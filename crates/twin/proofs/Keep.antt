@@ -19,13 +19,14 @@ use Rattle.model.specs.Image.{Loaded, bad, good}
 use Rattle.model.specs.Run.{Call, start, new, load, save, saveClipboard, sign, takeLog, request, ask, Answer, done, refused, Reply, reply, short, writes, dossierGood, signedBy, signed, logged, logBytes, standing}
 use Rattle.roundtrip.proofs.Checks.{not-not}
 use Rattle.twin.specs.Tree.{Tree}
-use Rattle.twin.specs.Twin.{Node, Clip, Session, leaf, begun, saved, savedClip, found, cached, edited, clipped, dossier, withDossier, withClipboard, withLog, withSignatures, carriedOut, requested, loadTree, loaded, orRefused, step}
+use Rattle.twin.specs.Twin.{Node, Clip, Session, leaf, begun, saved, savedClip, found, cached, edited, clipped, dossier, withDossier, withClipboard, withLog, withSignatures, carriedOut, requestedFrom, loadTree, source, requestedWith, requested, loaded, orRefused, step}
 use Rattle.twin.specs.Good.{GoodTree, GoodClip, GoodSession}
 use Rattle.twin.proofs.KeepEdits.{leaf-good, dossier-good}
 use Rattle.twin.proofs.Refusal.{no-refusal}
 use Rattle.twin.proofs.Requests.{Passed, passed, request-common}
 use Rattle.twin.proofs.KeepLoad.{Loads, load-good}
 use Rattle.twin.proofs.KeepRequest.{request-good}
+use Rattle.twin.proofs.Added.{source-good}
 
 -- ---- signatures
 blank-in : (n m : ℕ) → m ∈ replicate n 0 → m ≡ 0
@@ -134,24 +135,31 @@ loaded-good s n image (bad k) h g = g
 loaded-good s n image (good none) h g = g
 loaded-good s n image (good (some t)) h g = with-dossier n t s (h (some t) refl) g
 
-carried-good : (s : Session) (r : Request) (t : Tree Node) → GoodTree t → GoodSession s → Passed r (found r t) (cached (s .clipboard)) (standing r (s .signatures) (s .log))
-    → GoodSession (carriedOut s r (found r t) t .0)
-carried-good s r t h g p =
-    let w = request-good r t h (s .clipboard) (standing r (s .signatures) (s .log)) (g .clipboard) p in
+carried-good : (s : Session) (r : Request) (t : Tree Node) (c : Clip) → GoodTree t → GoodSession s → GoodClip c → Passed r (found r t) (cached c) (standing r (s .signatures) (s .log))
+    → GoodSession (carriedOut s r (found r t) t c .0)
+carried-good s r t c h g k p =
+    let w = request-good r t h c (s .clipboard) (standing r (s .signatures) (s .log)) k (g .clipboard) p in
     let messages = provisions (granted r (found r t)) .messages in
     let b : length (s .log) + length (members messages) ≤ 256 = nltb→le 256 (length (s .log) + length (members messages)) (not-T (ltb 256 (length (s .log) + length (members messages))) (p .log)) in
-    with-log (r .user) messages (s .log) (withClipboard (clipped r t (s .clipboard)) (withDossier (r .dossier) (edited r t (s .clipboard)) s)) (request-common r (p .operands) .user) b (g .log)
-    (with-clipboard (clipped r t (s .clipboard)) (withDossier (r .dossier) (edited r t (s .clipboard)) s) (w .1) (with-dossier (r .dossier) (edited r t (s .clipboard)) s (w .0) g))
+    with-log (r .user) messages (s .log) (withClipboard (clipped r t (s .clipboard)) (withDossier (r .dossier) (edited r t c) s)) (request-common r (p .operands) .user) b (g .log)
+    (with-clipboard (clipped r t (s .clipboard)) (withDossier (r .dossier) (edited r t c) s) (w .1) (with-dossier (r .dossier) (edited r t c) s (w .0) g))
 
-requested-good : (s : Session) (r : Request) → GoodSession s → GoodSession (requested s r .0)
-requested-good s r g =
-    go (refusal r (found r (dossier (r .dossier) s)) (cached (s .clipboard)) (standing r (s .signatures) (s .log)))
-    (λ e. carried-good s r (dossier (r .dossier) s) (dossier-good (r .dossier) s g) g (passed r (found r (dossier (r .dossier) s)) (cached (s .clipboard)) (standing r (s .signatures) (s .log)) e))
+from-good : (s : Session) (r : Request) (c : Clip) → GoodSession s → GoodClip c → GoodSession (requestedFrom s r c .0)
+from-good s r c g k =
+    go (refusal r (found r (dossier (r .dossier) s)) (cached c) (standing r (s .signatures) (s .log)))
+    (λ e. carried-good s r (dossier (r .dossier) s) c (dossier-good (r .dossier) s g) g k (passed r (found r (dossier (r .dossier) s)) (cached c) (standing r (s .signatures) (s .log)) e))
   where
-    go : (o : Option ℕ) → (o ≡ none → GoodSession (carriedOut s r (found r (dossier (r .dossier) s)) (dossier (r .dossier) s) .0))
-        → Leaves {A = Answer} (elim o [ none ↦ carriedOut s r (found r (dossier (r .dossier) s)) (dossier (r .dossier) s) | some n ↦ (s, refused n) ])
+    go : (o : Option ℕ) → (o ≡ none → GoodSession (carriedOut s r (found r (dossier (r .dossier) s)) (dossier (r .dossier) s) c .0))
+        → Leaves {A = Answer} (elim o [ none ↦ carriedOut s r (found r (dossier (r .dossier) s)) (dossier (r .dossier) s) c | some n ↦ (s, refused n) ])
     go none f = f refl
     go (some n) f = g
+
+requested-good : (s : Session) (r : Request) (image : List ℕ) → GoodSession s → GoodSession (requested s r image .0)
+requested-good s r image g = go (source s r image) (source-good s r image (g .clipboard))
+  where
+    go : (l : Loaded Clip) → ((c : Clip) → l ≡ good c → GoodClip c) → GoodSession (requestedWith s r l .0)
+    go (bad k) h = g
+    go (good c) h = from-good s r c g (h c refl)
 
 -- ---- every call
 pub good-step : (s : Session) (c : Call) → GoodSession s → GoodSession (step s c .0)
@@ -176,5 +184,5 @@ good-step s (sign user agreement) g =
 good-step s (takeLog buffer) g =
     writes-good (firstThat ((9, short (logBytes (s .log)) buffer) ∷ [])) s (withLog [] s) (logBytes (s .log)) buffer g
     (record { one = g .one; two = g .two; clipboard = g .clipboard; rows = g .rows; agreements = g .agreements; entries = omega arith; log = λ e m. absurd (List·Memᴰ·not-nil m) })
-good-step s (request r) g = requested-good s r g
+good-step s (request r image) g = requested-good s r image g
 good-step s (ask image q buffer) g = g

@@ -12,7 +12,7 @@ use Rattle.path.specs.Address.{Address, stepsGood, valid, parent, last}
 use Rattle.model.specs.Things.{Attribute, Permission}
 use Rattle.model.specs.Decide.{clashAny}
 use Rattle.model.specs.Refusals.{userGood, nameGood, valueGood, permissionGood, isRoot, permissionsOf}
-use Rattle.model.specs.Image.{Record, nodeRecord, attributeRecord, permissionRecord, inRange, left, there, Loaded, good}
+use Rattle.model.specs.Image.{Record, nodeRecord, attributeRecord, permissionRecord, inRange, left, there, Loaded, good, loadFrom}
 use Rattle.roundtrip.proofs.Checks.{let-in, absent-none}
 use Rattle.roundtrip.proofs.Images.{load-holds}
 use Rattle.roundtrip.proofs.Found.{fits-parts}
@@ -86,5 +86,10 @@ accept-keeps (some t) (permissionRecord r) u h e g =
 abbrev pub Loads : Loaded (Option (Tree Node)) → Type 0
 Loads l = (t : Option (Tree Node)) → l ≡ good t → Whole t
 
+-- by any way of taking a record that keeps trees good
+pub loads-good : (grow : Option (Tree Node) → Record → Option (Option (Tree Node)))
+    → ((t : Option (Tree Node)) (r : Record) (u : Option (Tree Node)) → T (inRange r) → grow t r ≡ some u → SoFar t → Whole u) → (b : List ℕ) → Loads (loadFrom grow none b)
+loads-good grow keeps b = load-holds grow Whole none (λ r u h e. keeps none r u h e tt) (λ t r u h e w. keeps t r u h e (so-far t w)) b
+
 pub load-good : (b : List ℕ) → Loads (loadTree b)
-load-good b = load-holds accept Whole none (λ r u h e. accept-keeps none r u h e tt) (λ t r u h e w. accept-keeps t r u h e (so-far t w)) b
+load-good = loads-good accept accept-keeps

@@ -70,11 +70,12 @@ single-kept c (some a) f g = f a refl
 
 -- ---- every request
 module _ (r : Request) (t : Tree Node) (gt : GoodTree t) where
-  pasted-branch : (c : Clip) → GoodClip c → Within (totals (numbered 7 r) (found r t) (cached c)) → GoodTree (pastedBranch (numbered 7 r) t c)
-  pasted-branch empty g w = gt
-  pasted-branch (branched s) g w =
+  -- requests 7 and 17
+  pasted-branch : (n : ℕ) (c : Clip) → GoodClip c → Within (totals (numbered 7 r) (found r t) (cached c)) → GoodTree (pastedBranch (numbered n r) t c)
+  pasted-branch n empty g w = gt
+  pasted-branch n (branched s) g w =
       paste-good s (r .path) t g (record { children = siblings-few (parent (r .path)) t (w .children); depth = w .depth; nodes = w .nodes; attributes = w .attributes; permissions = w .permissions }) gt
-  pasted-branch (single a) g w = gt
+  pasted-branch n (single a) g w = gt
 
   pasted-attribute : (c : Clip) → GoodClip c → T (nameGood (r .name)) → holdingAt (r .path) (r .name) t ≡ none → Within (totals (numbered 13 r) (found r t) (cached c)) → GoodTree (pastedAttribute (numbered 13 r) t c)
   pasted-attribute empty g n e w = gt
@@ -82,9 +83,10 @@ module _ (r : Request) (t : Tree Node) (gt : GoodTree t) where
   pasted-attribute (single a) g n e w =
       hold-good (renamed (r .name) a) (r .path) t (rename-good (r .name) a n (g .holding)) e (w .on-node) (w .attributes) (w .permissions) gt
 
-  module _ (c : Clip) (st : Standing) (gc : GoodClip c) where
+  -- c is what there is to paste, and k the clipboard
+  module _ (c k : Clip) (st : Standing) (gc : GoodClip c) (gk : GoodClip k) where
     abbrev Kept : ℕ → Type 0
-    Kept n = Passed (numbered n r) (found r t) (cached c) st → GoodTree (edited (numbered n r) t c) × GoodClip (clipped (numbered n r) t c)
+    Kept n = Passed (numbered n r) (found r t) (cached c) st → GoodTree (edited (numbered n r) t c) × GoodClip (clipped (numbered n r) t k)
 
     facts : (n : ℕ) → Passed (numbered n r) (found r t) (cached c) st → Common (numbered n r) × T (ownGood (numbered n r)) × Within (totals (numbered n r) (found r t) (cached c))
     facts n p =
@@ -96,14 +98,14 @@ module _ (r : Request) (t : Tree Node) (gt : GoodTree t) where
         let w = facts 3 p in (
           paste-good (leaf (r .user)) (r .path) t (leaf-good (r .user) (w .0 .user))
               (leaf-room (r .user) (r .path) t (siblings-few (parent (r .path)) t (w .2 .children)) (w .0 .short) (w .2 .nodes) gt) gt,
-          gc,
+          gk,
         )
 
-    branch-copied : GoodClip (clipped (numbered 5 r) t c)
-    branch-copied = branch-kept c (branch (r .path) t) (λ s e. branch-good (r .path) t s e gt) gc
+    branch-copied : GoodClip (clipped (numbered 5 r) t k)
+    branch-copied = branch-kept k (branch (r .path) t) (λ s e. branch-good (r .path) t s e gt) gk
 
-    attribute-copied : GoodClip (clipped (numbered 11 r) t c)
-    attribute-copied = single-kept c (holdingAt (r .path) (r .name) t) (λ a e. single-good (r .path) (r .name) t a e gt) gc
+    attribute-copied : GoodClip (clipped (numbered 11 r) t k)
+    attribute-copied = single-kept k (holdingAt (r .path) (r .name) t) (λ a e. single-good (r .path) (r .name) t a e gt) gk
 
     add-attribute : Kept 8
     add-attribute p =
@@ -112,23 +114,23 @@ module _ (r : Request) (t : Tree Node) (gt : GoodTree t) where
           hold-good (record { name = r .name; owner = r .user; value = r .value; permissions = [] }) (r .path) t
               (record { name = v .0; owner = w .0 .user; value = v .1; permissions = record { each = λ g m. absurd (List·Memᴰ·not-nil m); no-clash = tt } })
               (map-missing holdingObject (holdingAt (r .path) (r .name) t) (p .free)) (w .2 .on-node) (w .2 .attributes) (w .2 .permissions) gt,
-          gc,
+          gk,
         )
 
     paste-attribute : Kept 13
     paste-attribute p =
         let w = facts 13 p in
-        (pasted-attribute c gc (w .1) (map-missing holdingObject (holdingAt (r .path) (r .name) t) (p .free)) (w .2), gc)
+        (pasted-attribute c gc (w .1) (map-missing holdingObject (holdingAt (r .path) (r .name) t) (p .free)) (w .2), gk)
 
     granted-now : T (grantGood r) → (T (clashAny (r .permission) (permissionsOf (objectAt (r .path) (r .name) t))) → ⊥) → weigh permissionItems t + 1 ≤ 128 → GoodTree (edited (numbered 14 r) t c)
     granted-now g n l = grant-good (r .name) (r .permission) (r .path) t (and-yes (leb (r .name) 65535) (permissionGood (r .name) (r .permission)) g .1) n l gt
 
     change-value : Kept 10
-    change-value p = (value-good (r .name) (r .value) (r .path) t (and-yes (nameGood (r .name)) (valueGood (r .value)) (facts 10 p .1) .1) gt, gc)
+    change-value p = (value-good (r .name) (r .value) (r .path) t (and-yes (nameGood (r .name)) (valueGood (r .value)) (facts 10 p .1) .1) gt, gk)
 
     delegate : Kept 16
     delegate p =
-        let w = facts 16 p in (granted-now (and-yes (grantGood r) (leb (r .permission .action) 2) (w .1) .0) (p .clash) (w .2 .permissions), gc)
+        let w = facts 16 p in (granted-now (and-yes (grantGood r) (leb (r .permission .action) 2) (w .1) .0) (p .clash) (w .2 .permissions), gk)
 
     deleted : {n : ℕ} → Passed (numbered n r) (found r t) (cached c) st → GoodTree (edited (numbered 4 r) t c)
     deleted {n} p = delete-good (r .path) t (facts n p .0 .short) gt
@@ -136,19 +138,19 @@ module _ (r : Request) (t : Tree Node) (gt : GoodTree t) where
     kept-each : T (ownGood r) → Kept (r .number)
     kept-each own =
         every-number Kept r (
-          (λ p. (gt, gc), (add-node, (λ p. (deleted p, gc), (λ p. (gt, branch-copied), (λ p. (deleted p, branch-copied), (λ p. (pasted-branch c gc (facts 7 p .2), gc), tt)))))),
+          (λ p. (gt, gk), (add-node, (λ p. (deleted p, gk), (λ p. (gt, branch-copied), (λ p. (deleted p, branch-copied), (λ p. (pasted-branch 7 c gc (facts 7 p .2), gk), (λ p. (pasted-branch 17 c gc (facts 17 p .2), gk), tt))))))),
           (
             (
-              λ p. (gt, gc),
+              λ p. (gt, gk),
               (
-                λ p. (without-good (r .name) (r .path) t gt, gc),
+                λ p. (without-good (r .name) (r .path) t gt, gk),
                 (λ p. (gt, attribute-copied), (λ p. (without-good (r .name) (r .path) t gt, attribute-copied), (paste-attribute, tt))),
               ),
             ),
             (
               (add-attribute, (change-value, tt)),
               (
-                (λ p. (granted-now (facts 14 p .1) (p .clash) (facts 14 p .2 .permissions), gc), (λ p. (revoke-good (r .name) (r .permission) (r .path) t gt, gc), tt)),
+                (λ p. (granted-now (facts 14 p .1) (p .clash) (facts 14 p .2 .permissions), gk), (λ p. (revoke-good (r .name) (r .permission) (r .path) t gt, gk), tt)),
                 ((delegate, tt), tt),
               ),
             ),
@@ -156,5 +158,5 @@ module _ (r : Request) (t : Tree Node) (gt : GoodTree t) where
         )
         own
 
-    pub request-good : Passed r (found r t) (cached c) st → GoodTree (edited r t c) × GoodClip (clipped r t c)
+    pub request-good : Passed r (found r t) (cached c) st → GoodTree (edited r t c) × GoodClip (clipped r t k)
     request-good p = kept-each (operands-good r (p .operands) .1) p

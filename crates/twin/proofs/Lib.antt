@@ -17,6 +17,7 @@ pub mod SameRequest
 pub mod SameRecord
 pub mod KeepLoad
 pub mod SameLoad
+pub mod Added
 pub mod KeepRequest
 pub mod Keep
 pub mod SameRuns
@@ -24,3 +25,4 @@ pub mod GoodSound
 pub mod KeptSound
 pub mod Decision
 pub mod ShutOut
+pub mod Placed

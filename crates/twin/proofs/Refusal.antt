@@ -9,12 +9,13 @@ use lib.Dec.{T, eqb, leb, ltb, eqb-refl}
 use lib.ListN.{length}
 use mir.Facts.{yes-and}
 use Rattle.laws.specs.Slots.{pick, All}
-use Rattle.model.specs.Things.{Attribute, Dossier, State, bare}
+use Rattle.model.specs.Things.{Attribute, Dossier, Clipboard, State, bare}
 use Rattle.model.specs.Moves.{attributeAt, objectAt}
 use Rattle.model.specs.Refusals.{Request, Found, missing, userGood, provisions, firstThat, refusal}
 use Rattle.model.specs.Image as images
 use Rattle.model.specs.Image.{Loaded, bad, good}
-use Rattle.model.specs.Run.{Question, Call, start, new, load, save, saveClipboard, sign, takeLog, request, ask, Answer, done, contents, valueRead, wrote, refused, badRecord, numberOf, Reply, reply, short, written, writes, dossierGood, dossier, withDossier, withLog, withSignatures, signed, logBytes, found, cached, standing, valueOf, answered, carriedOut, requested, badQuestion, imageOf, orNone, mayAskIn, askBytes, loaded, orRefused, step}
+use Rattle.model.specs.Run.{Question, Call, start, new, load, save, saveClipboard, sign, takeLog, request, ask, Answer, done, contents, valueRead, wrote, refused, badRecord, numberOf, recordOf, Reply, reply, short, written, writes, dossierGood, dossier, withDossier, withLog, withSignatures, signed, logBytes, found, cached, standing, valueOf, answered, carriedOut, requestedFrom, places, asBranch, source, requestedWith, requested, badQuestion, imageOf, orNone, mayAskIn, askBytes, loaded, orRefused, step}
+use Rattle.path.proofs.Moves.{pick-no}
 use Rattle.roundtrip.proofs.Checks.{or-left, or-right}
 
 -- ---- "Tested in this order; the first that applies is given, and only then"
@@ -71,19 +72,19 @@ only-then n l e = let w = first-there n l e in subst (λ (m : Rows). T (applies 
     at-row [] b = or-left (eqb n n && true) (applies n b) (yes-and (eqb n n) true (eqb-refl n) tt)
     at-row (row ∷ a) b = or-right (eqb n (row .0) && row .1) (applies n (a ++ ((n, true) ∷ b))) (at-row a b)
 
--- ---- a guarded request, by what the table says
-abbrev pub judged : State → Request → Option ℕ
-judged s r = refusal r (found r (dossier (r .dossier) s)) (cached (s .clipboard)) (standing r (s .signatures) (s .log))
+-- ---- a guarded request that pastes from c, by what the table says
+abbrev pub judged : State → Request → Clipboard → Option ℕ
+judged s r c = refusal r (found r (dossier (r .dossier) s)) (cached c) (standing r (s .signatures) (s .log))
 
-abbrev pub outcome : State → Request → Option ℕ → State × Answer
-outcome s r o =
+abbrev pub outcome : State → Request → Clipboard → Option ℕ → State × Answer
+outcome s r c o =
     elim o [
-      | none ↦ carriedOut s r (found r (dossier (r .dossier) s)) (dossier (r .dossier) s)
+      | none ↦ carriedOut s r (found r (dossier (r .dossier) s)) (dossier (r .dossier) s) c
       | some n ↦ (s, refused n)
     ]
 
-pub refused-by : (s : State) (r : Request) (n : ℕ) → judged s r ≡ some n → requested s r ≡ (s, refused n)
-refused-by s r n e = ap (outcome s r) e
+pub refused-by : (s : State) (r : Request) (c : Clipboard) (n : ℕ) → judged s r c ≡ some n → requestedFrom s r c ≡ (s, refused n)
+refused-by s r c n e = ap (outcome s r c) e
 
 -- ---- ask, by what its own table says: "tested 1, 12 (here without a record number), 3, 6, 9"
 abbrev pub asking : Question → List ℕ → Option Dossier → Option ℕ
@@ -128,7 +129,7 @@ lentBy (save n buffer) = buffer ∷ []
 lentBy (saveClipboard buffer) = buffer ∷ []
 lentBy (sign user agreement) = []
 lentBy (takeLog buffer) = buffer ∷ []
-lentBy (request r) = []
+lentBy (request r image) = image ∷ []
 lentBy (ask image q buffer) = image ∷ buffer ∷ []
 
 -- a reply that keeps everything if it refuses
@@ -159,19 +160,63 @@ load-keeps none s n image (bad k) t = (refl, refl)
 load-keeps none s n image (good d) t = absurd t
 load-keeps (some k) s n image d t = (refl, refl)
 
-request-keeps : (o : Option ℕ) (s : State) (r : Request) → T (isRefused (outcome s r o .1)) → outcome s r o .0 ≡ s
-request-keeps none s r t =
+-- the table's answer on what is pasted
+from-keeps : (o : Option ℕ) (s : State) (r : Request) (c : Clipboard) → T (isRefused (outcome s r c o .1)) → outcome s r c o .0 ≡ s
+from-keeps none s r c t =
     absurd (answered-so r (found r (dossier (r .dossier) s)) (attributeAt (r .path) (r .name) (dossier (r .dossier) s)) t)
-request-keeps (some n) s r t = refl
+from-keeps (some n) s r c t = refl
+
+pub request-keeps : (l : Loaded Clipboard) (s : State) (r : Request) → T (isRefused (requestedWith s r l .1)) → requestedWith s r l .0 ≡ s
+request-keeps (bad k) s r t = refl
+request-keeps (good c) s r t = from-keeps (judged s r c) s r c t
 
 -- a number that is answered is the table's
-refused-at : (o : Option ℕ) (s : State) (r : Request) (n : ℕ) → outcome s r o .1 ≡ refused n → o ≡ some n
-refused-at none s r n e =
+refused-at : (o : Option ℕ) (s : State) (r : Request) (c : Clipboard) (n : ℕ) → outcome s r c o .1 ≡ refused n → o ≡ some n
+refused-at none s r c n e =
     absurd (answered-so r (found r (dossier (r .dossier) s)) (attributeAt (r .path) (r .name) (dossier (r .dossier) s)) (subst (λ (a : Answer). T (isRefused a)) (sym e) tt))
-refused-at (some k) s r n e = ap some (ap numberOf e)
+refused-at (some k) s r c n e = ap some (ap numberOf e)
 
-pub refused-is : (s : State) (r : Request) (n : ℕ) → requested s r .1 ≡ refused n → judged s r ≡ some n
-refused-is s r n e = refused-at (judged s r) s r n e
+-- so whatever is pasted from, also where nothing is read: "tested 1, 12"
+abbrev pub JudgedSo : State → Request → List ℕ → ℕ → Type 0
+JudgedSo s r image n = (c : Clipboard) × (source s r image ≡ good c) × (judged s r c ≡ some n)
+
+not-bad : (k n : ℕ) → badRecord k ≡ refused n → ⊥
+not-bad k n e = subst (λ (a : Answer). T (isBad a)) e tt
+  where
+    isBad : Answer → Bool
+    isBad done = false
+    isBad (contents names children) = false
+    isBad (valueRead v) = false
+    isBad (wrote n) = false
+    isBad (refused n) = false
+    isBad (badRecord n) = true
+
+pub refused-is : (s : State) (r : Request) (image : List ℕ) (n : ℕ) → requested s r image .1 ≡ refused n → JudgedSo s r image n
+refused-is s r image n e = go (source s r image) refl e
+  where
+    go : (l : Loaded Clipboard) → source s r image ≡ l → requestedWith s r l .1 ≡ refused n → JudgedSo s r image n
+    go (bad k) q h = absurd (not-bad k n h)
+    go (good c) q h = (c, q, refused-at (judged s r c) s r c n h)
+
+pub refused-so : (s : State) (r : Request) (image : List ℕ) (n : ℕ) → JudgedSo s r image n → requested s r image ≡ (s, refused n)
+refused-so s r image n w = ap (requestedWith s r) (w .1) ∙ refused-by s r (w .0) n (w .2)
+
+-- where no image is looked at, the clipboard is what there is to paste
+pub unread : (s : State) (r : Request) (image : List ℕ) → (T (places r) → ⊥) → source s r image ≡ good (s .clipboard)
+unread s r image n = pick-no (places r) (asBranch (images.loadAdded (r .user) image)) (good (s .clipboard)) n
+
+-- a bad image's record is the first that is bad or a permission
+pub bad-record-is : (s : State) (r : Request) (image : List ℕ) (k : ℕ) → (requested s r image .1 ≡ badRecord k) ↔ (source s r image ≡ bad k)
+bad-record-is s r image k = (go (source s r image) refl, λ q. ap (λ (l : Loaded Clipboard). requestedWith s r l .1) q)
+  where
+    taken : (o : Option ℕ) (c : Clipboard) → outcome s r c o .1 ≡ badRecord k → ⊥
+    taken none c h =
+        answered-so r (found r (dossier (r .dossier) s)) (attributeAt (r .path) (r .name) (dossier (r .dossier) s)) (subst (λ (a : Answer). T (isRefused a)) (sym h) tt)
+    taken (some n) c h = not-bad k n (sym h)
+
+    go : (l : Loaded Clipboard) → source s r image ≡ l → requestedWith s r l .1 ≡ badRecord k → source s r image ≡ bad k
+    go (bad j) q h = q ∙ ap bad (ap recordOf h)
+    go (good c) q h = absurd (taken (judged s r c) c h)
 
 ask-keeps : (o : Option ℕ) (s : State) (image buffer bytes : List ℕ) → Keeps s (image ∷ buffer ∷ []) (s, replied image buffer bytes o)
 ask-keeps none s image buffer bytes t = absurd t
@@ -189,6 +234,6 @@ refusal-keeps s (saveClipboard buffer) t = let bytes = images.saveClipboard (s .
 refusal-keeps s (sign user agreement) t =
     or-keeps (firstThat ((1, not (userGood user && leb agreement 31)) ∷ [])) s (withSignatures (signed user agreement (s .signatures)) s) t
 refusal-keeps s (takeLog buffer) t = let bytes = logBytes (s .log) in writes-keeps (firstThat ((9, short bytes buffer) ∷ [])) s (withLog [] s) bytes buffer t
-refusal-keeps s (request r) t = (request-keeps (judged s r) s r t, refl)
+refusal-keeps s (request r image) t = (request-keeps (source s r image) s r t, refl)
 refusal-keeps s (ask image q buffer) t = let d = imageOf (images.load image) in
     ask-keeps (asking q buffer d) s image buffer (written (askBytes (provisions (mayAskIn q (orNone d)))) buffer) t

@@ -124,11 +124,11 @@ module _ (F : ℕ → Type 0) (n : ℕ) where
 
 -- every number that there is: "unknown request" is refused
 pub every-number : (F : ℕ → Type 0) (r : Request)
-    → All (λ l. All F l) ((1 ∷ 3 ∷ 4 ∷ 5 ∷ 6 ∷ 7 ∷ []) ∷ (2 ∷ 9 ∷ 11 ∷ 12 ∷ 13 ∷ []) ∷ (8 ∷ 10 ∷ []) ∷ (14 ∷ 15 ∷ []) ∷ (16 ∷ []) ∷ [])
+    → All (λ l. All F l) ((1 ∷ 3 ∷ 4 ∷ 5 ∷ 6 ∷ 7 ∷ 17 ∷ []) ∷ (2 ∷ 9 ∷ 11 ∷ 12 ∷ 13 ∷ []) ∷ (8 ∷ 10 ∷ []) ∷ (14 ∷ 15 ∷ []) ∷ (16 ∷ []) ∷ [])
     → T (ownGood r) → F (r .number)
 every-number F r a t =
     by-number F (r .number)
-    ((1 ∷ 3 ∷ 4 ∷ 5 ∷ 6 ∷ 7 ∷ [], true)
+    ((1 ∷ 3 ∷ 4 ∷ 5 ∷ 6 ∷ 7 ∷ 17 ∷ [], true)
     ∷ (2 ∷ 9 ∷ 11 ∷ 12 ∷ 13 ∷ [], nameGood (r .name))
     ∷ (8 ∷ 10 ∷ [], nameGood (r .name) && valueGood (r .value))
     ∷ (14 ∷ 15 ∷ [], grantGood r)

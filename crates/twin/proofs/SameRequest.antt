@@ -20,7 +20,7 @@ use Rattle.model.specs.Run.{Answer, refused, standing}
 use Rattle.roundtrip.proofs.Checks.{neither}
 use Rattle.roundtrip.proofs.Load.{last-good}
 use Rattle.twin.specs.Tree.{Tree, kids, count, branch, look, pasteTree, deleteTree}
-use Rattle.twin.specs.Twin.{Holding, Node, Clip, empty, branched, single, Session, leaf, plain, nodeObject, holdingObject, holding, holdingAt, nodeAt, attributeObject, objectAt, childrenOf, found, cached, pastedBranch, renamed, pastedAttribute, edited, copiedBranch, copied, clipped, answered, dossier, withDossier, carriedOut, requested}
+use Rattle.twin.specs.Twin.{Holding, Node, Clip, empty, branched, single, Session, leaf, plain, nodeObject, holdingObject, holding, holdingAt, nodeAt, attributeObject, objectAt, childrenOf, found, cached, pastedBranch, renamed, pastedAttribute, edited, copiedBranch, copied, clipped, answered, dossier, withDossier, carriedOut, requestedFrom}
 use Rattle.twin.specs.Good.{dossierOf, clipboardOf, stateOf, GoodTree, GoodClip, GoodSession}
 use Rattle.twin.proofs.Trees.{last-of, then-some, Place, place-of, look-branch}
 use Rattle.twin.proofs.KeepNode.{holding-in}
@@ -72,12 +72,13 @@ held-there : (g : Permission) (o : Option Object) → (T (not (held g o)) → �
 held-there g none n t = n tt
 held-there g (some o) n t = t
 
-module _ (r : Request) (t : Tree Node) (c : Clip) (st : Standing) (gt : GoodTree t) (gc : GoodClip c) where
+-- c is what there is to paste, and k the clipboard
+module _ (r : Request) (t : Tree Node) (c k : Clip) (st : Standing) (gt : GoodTree t) where
   abbrev Alike : ℕ → Type 0
   Alike n =
       Passed (numbered n r) (found r t) (cached c) st
       → (run.edited (numbered n r) (dossierOf t) (clipboardOf c) ≡ dossierOf (edited (numbered n r) t c))
-      × (run.clipped (numbered n r) (dossierOf t) (clipboardOf c) ≡ clipboardOf (clipped (numbered n r) t c))
+      × (run.clipped (numbered n r) (dossierOf t) (clipboardOf k) ≡ clipboardOf (clipped (numbered n r) t k))
 
   good : (n : ℕ) → Passed (numbered n r) (found r t) (cached c) st → T (ownGood (numbered n r))
   good n p = operands-good (numbered n r) (p .operands) .1
@@ -95,29 +96,32 @@ module _ (r : Request) (t : Tree Node) (c : Clip) (st : Standing) (gt : GoodTree
       let v = then-some (look (r .path) t) (holding (r .name)) (w .0) (w .1) in
       (w .0, w .1, (v .0, v .1, v .2))
 
-  copied-branch : (T (missing (nodeAt (r .path) t)) → ⊥) → run.clipped (numbered 5 r) (dossierOf t) (clipboardOf c) ≡ clipboardOf (clipped (numbered 5 r) t c)
+  copied-branch : (T (missing (nodeAt (r .path) t)) → ⊥) → run.clipped (numbered 5 r) (dossierOf t) (clipboardOf k) ≡ clipboardOf (clipped (numbered 5 r) t k)
   copied-branch h =
       let w = on-node h in
       let v = look-branch (r .path) t (w .0) (w .1) in
-      ap things.branch (copy-same (r .path) t (v .0) (v .1)) ∙ sym (ap (λ (o : Option (Tree Node)). clipboardOf (copiedBranch c o)) (v .1))
+      ap things.branch (copy-same (r .path) t (v .0) (v .1)) ∙ sym (ap (λ (o : Option (Tree Node)). clipboardOf (copiedBranch k o)) (v .1))
 
-  copied-attribute : moves.copied (r .path) (r .name) (dossierOf t) (clipboardOf c) (attributeAt (r .path) (r .name) (dossierOf t)) ≡ clipboardOf (copied c (holdingAt (r .path) (r .name) t))
+  copied-attribute : moves.copied (r .path) (r .name) (dossierOf t) (clipboardOf k) (attributeAt (r .path) (r .name) (dossierOf t)) ≡ clipboardOf (copied k (holdingAt (r .path) (r .name) t))
   copied-attribute =
-      ap (moves.copied (r .path) (r .name) (dossierOf t) (clipboardOf c)) (attribute-at-same (r .path) (r .name) t gt) ∙ go (holdingAt (r .path) (r .name) t) refl
+      ap (moves.copied (r .path) (r .name) (dossierOf t) (clipboardOf k)) (attribute-at-same (r .path) (r .name) t gt) ∙ go (holdingAt (r .path) (r .name) t) refl
     where
-      go : (o : Option Holding) → holdingAt (r .path) (r .name) t ≡ o → moves.copied (r .path) (r .name) (dossierOf t) (clipboardOf c) (Option·map plain o) ≡ clipboardOf (copied c o)
+      go : (o : Option Holding) → holdingAt (r .path) (r .name) t ≡ o → moves.copied (r .path) (r .name) (dossierOf t) (clipboardOf k) (Option·map plain o) ≡ clipboardOf (copied k o)
       go none e = refl
       go (some a) e = ap (things.single (plain a)) (held-same (r .path) (r .name) t a gt e)
 
   add-node : Alike 3
   add-node p = (ap (λ (d : Dossier). pasteBranch (r .path) d (dossierOf t)) (bare-same (r .user)) ∙ pasted-at (leaf (r .user)) (r .path) t (p .root) (steps 3 p) (p .there), refl)
 
-  paste-branch : Alike 7
-  paste-branch p = (go c, refl)
+  -- requests 7 and 17
+  paste-branch : (n : ℕ) → (T (isRoot (r .path)) → ⊥) → T (stepsGood (r .path))
+      → (T (missing (nodeAt (parent (r .path)) t) || ltb (childrenOf (branch (parent (r .path)) t) + 1) (last (r .path))) → ⊥)
+      → moves.pastedBranch (r .path) (dossierOf t) (clipboardOf c) ≡ dossierOf (pastedBranch (numbered n r) t c)
+  paste-branch n root good there = go c
     where
-      go : (b : Clip) → moves.pastedBranch (r .path) (dossierOf t) (clipboardOf b) ≡ dossierOf (pastedBranch (numbered 7 r) t b)
+      go : (b : Clip) → moves.pastedBranch (r .path) (dossierOf t) (clipboardOf b) ≡ dossierOf (pastedBranch (numbered n r) t b)
       go empty = refl
-      go (branched s) = pasted-at s (r .path) t (p .root) (steps 7 p) (p .there)
+      go (branched s) = pasted-at s (r .path) t root good there
       go (single a) = refl
 
   add-attribute : Alike 8
@@ -163,7 +167,13 @@ module _ (r : Request) (t : Tree Node) (c : Clip) (st : Standing) (gt : GoodTree
             add-node,
             (
               λ p. (deleted-at (r .path) t (p .root) (steps 4 p), refl),
-              (λ p. (refl, copied-branch (p .there)), (λ p. (deleted-at (r .path) t (p .root) (steps 6 p), copied-branch (p .there)), (paste-branch, tt))),
+              (
+                λ p. (refl, copied-branch (p .there)),
+                (
+                  λ p. (deleted-at (r .path) t (p .root) (steps 6 p), copied-branch (p .there)),
+                  (λ p. (paste-branch 7 (p .root) (steps 7 p) (p .there), refl), (λ p. (paste-branch 17 (p .root) (steps 17 p) (p .there), refl), tt)),
+                ),
+              ),
             ),
           ),
         ),
@@ -184,13 +194,13 @@ module _ (r : Request) (t : Tree Node) (c : Clip) (st : Standing) (gt : GoodTree
       own
 
   done-same : refusal r (found r t) (cached c) st ≡ none
-      → (run.edited r (dossierOf t) (clipboardOf c) ≡ dossierOf (edited r t c)) × (run.clipped r (dossierOf t) (clipboardOf c) ≡ clipboardOf (clipped r t c))
+      → (run.edited r (dossierOf t) (clipboardOf c) ≡ dossierOf (edited r t c)) × (run.clipped r (dossierOf t) (clipboardOf k) ≡ clipboardOf (clipped r t k))
   done-same e = let p = passed r (found r t) (cached c) st e in alike (operands-good r (p .operands) .1) p
 
   edited-same : refusal r (found r t) (cached c) st ≡ none → run.edited r (dossierOf t) (clipboardOf c) ≡ dossierOf (edited r t c)
   edited-same e = done-same e .0
 
-  clipped-same : refusal r (found r t) (cached c) st ≡ none → run.clipped r (dossierOf t) (clipboardOf c) ≡ clipboardOf (clipped r t c)
+  clipped-same : refusal r (found r t) (cached c) st ≡ none → run.clipped r (dossierOf t) (clipboardOf k) ≡ clipboardOf (clipped r t k)
   clipped-same e = done-same e .1
 
 answered-same : (r : Request) (f : Found) (t : Tree Node) → GoodTree t → run.answered r f (attributeAt (r .path) (r .name) (dossierOf t)) ≡ answered r f (holdingAt (r .path) (r .name) t)
@@ -221,23 +231,24 @@ with-same n t s = go (eqb n 1)
     go true = refl
     go false = refl
 
-carried-same : (s : Session) (r : Request) (t : Tree Node) → GoodTree t → GoodClip (s .clipboard)
-    → refusal r (found r t) (cached (s .clipboard)) (standing r (s .signatures) (s .log)) ≡ none
-    → run.carriedOut (stateOf s) r (found r t) (dossierOf t) ≡ seen (carriedOut s r (found r t) t)
-carried-same s r t g h e =
-    let c : run.clipped r (dossierOf t) (clipboardOf (s .clipboard)) ≡ clipboardOf (clipped r t (s .clipboard)) = clipped-same r t (s .clipboard) (standing r (s .signatures) (s .log)) g h e in
-    let d : run.withDossier (r .dossier) (run.edited r (dossierOf t) (clipboardOf (s .clipboard))) (stateOf s) ≡ stateOf (withDossier (r .dossier) (edited r t (s .clipboard)) s)
-    = ap (λ (x : Dossier). run.withDossier (r .dossier) x (stateOf s)) (edited-same r t (s .clipboard) (standing r (s .signatures) (s .log)) g h e) ∙ with-same (r .dossier) (edited r t (s .clipboard)) s in
+carried-same : (s : Session) (r : Request) (t : Tree Node) (c : Clip) → GoodTree t
+    → refusal r (found r t) (cached c) (standing r (s .signatures) (s .log)) ≡ none
+    → run.carriedOut (stateOf s) r (found r t) (dossierOf t) (clipboardOf c) ≡ seen (carriedOut s r (found r t) t c)
+carried-same s r t c g e =
+    let k = s .clipboard in
+    let b : run.clipped r (dossierOf t) (clipboardOf k) ≡ clipboardOf (clipped r t k) = clipped-same r t c k (standing r (s .signatures) (s .log)) g e in
+    let d : run.withDossier (r .dossier) (run.edited r (dossierOf t) (clipboardOf c)) (stateOf s) ≡ stateOf (withDossier (r .dossier) (edited r t c) s)
+    = ap (λ (x : Dossier). run.withDossier (r .dossier) x (stateOf s)) (edited-same r t c k (standing r (s .signatures) (s .log)) g e) ∙ with-same (r .dossier) (edited r t c) s in
     λ i. (
-      run.withLog (seen (carriedOut s r (found r t) t) .0 .log) (run.withClipboard (c i) (d i)),
+      run.withLog (seen (carriedOut s r (found r t) t c) .0 .log) (run.withClipboard (b i) (d i)),
       answered-same r (found r t) t g i,
     )
 
-pub request-same : (s : Session) (r : Request) → GoodSession s → run.requested (stateOf s) r ≡ seen (requested s r)
-request-same s r g =
-    ap (λ (d : Dossier). model (run.found r d) (run.cached (clipboardOf (s .clipboard))) d) (dossier-same (r .dossier) s)
-    ∙ ap₂ (λ (f : Found) (c : Cached). model f c (dossierOf t)) (found-same r t gt) (cached-same (s .clipboard) (g .clipboard))
-    ∙ go (refusal r (found r t) (cached (s .clipboard)) st) refl
+pub from-same : (s : Session) (r : Request) (c : Clip) → GoodSession s → GoodClip c → run.requestedFrom (stateOf s) r (clipboardOf c) ≡ seen (requestedFrom s r c)
+from-same s r c g gc =
+    ap (λ (d : Dossier). model (run.found r d) (run.cached (clipboardOf c)) d) (dossier-same (r .dossier) s)
+    ∙ ap₂ (λ (f : Found) (b : Cached). model f b (dossierOf t)) (found-same r t gt) (cached-same c gc)
+    ∙ go (refusal r (found r t) (cached c) st) refl
   where
     t : Tree Node
     t = dossier (r .dossier) s
@@ -249,10 +260,10 @@ request-same s r g =
     st = standing r (s .signatures) (s .log)
 
     model : Found → Cached → Dossier → State × Answer
-    model f c d = elim (refusal r f c st) [ none ↦ run.carriedOut (stateOf s) r f d | some n ↦ (stateOf s, refused n) ]
+    model f b d = elim (refusal r f b st) [ none ↦ run.carriedOut (stateOf s) r f d (clipboardOf c) | some n ↦ (stateOf s, refused n) ]
 
-    go : (o : Option ℕ) → refusal r (found r t) (cached (s .clipboard)) st ≡ o
-        → elim o [ none ↦ run.carriedOut (stateOf s) r (found r t) (dossierOf t) | some n ↦ (stateOf s, refused n) ]
-        ≡ seen {A = Answer} (elim o [ none ↦ carriedOut s r (found r t) t | some n ↦ (s, refused n) ])
-    go none e = carried-same s r t gt (g .clipboard) e
+    go : (o : Option ℕ) → refusal r (found r t) (cached c) st ≡ o
+        → elim o [ none ↦ run.carriedOut (stateOf s) r (found r t) (dossierOf t) (clipboardOf c) | some n ↦ (stateOf s, refused n) ]
+        ≡ seen {A = Answer} (elim o [ none ↦ carriedOut s r (found r t) t c | some n ↦ (s, refused n) ])
+    go none e = carried-same s r t c gt e
     go (some n) e = refl

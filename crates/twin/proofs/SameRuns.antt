@@ -18,10 +18,11 @@ use Rattle.twin.specs.Twin.{Node, Clip, empty, branched, single, Session
 use Rattle.twin.specs.Good.{dossierOf, clipboardOf, stateOf, GoodSession}
 use Rattle.twin.proofs.Same.{node-same, object-same}
 use Rattle.twin.proofs.SameEdit.{bare-same}
-use Rattle.twin.proofs.SameRequest.{seen, dossier-same, with-same, request-same}
+use Rattle.twin.proofs.SameRequest.{seen, dossier-same, with-same}
 use Rattle.twin.proofs.SameRecord.{SoFar}
 use Rattle.twin.proofs.KeepLoad.{so-far, Loads, load-good}
 use Rattle.twin.proofs.SameLoad.{loadedOf, load-same}
+use Rattle.twin.proofs.Added.{request-same}
 use Rattle.twin.proofs.Keep.{begun-good, good-step}
 
 -- ---- images
@@ -97,7 +98,7 @@ step-same s (saveClipboard buffer) g =
     ∙ writes-same (firstThat ((9, short (savedClip (s .clipboard)) buffer) ∷ [])) s s (savedClip (s .clipboard)) buffer
 step-same s (sign user agreement) g = refused-same (firstThat ((1, not (userGood user && leb agreement 31)) ∷ [])) s (withSignatures (signed user agreement (s .signatures)) s) done
 step-same s (takeLog buffer) g = writes-same (firstThat ((9, short (run.logBytes (s .log)) buffer) ∷ [])) s (withLog [] s) (run.logBytes (s .log)) buffer
-step-same s (request r) g = ap {B = State × Reply} (λ (x : State × Answer). (x .0, reply (x .1) [])) (request-same s r g)
+step-same s (request r image) g = ap {B = State × Reply} (λ (x : State × Answer). (x .0, reply (x .1) (image ∷ []))) (request-same s r image g)
 step-same s (ask image q buffer) g = ap {B = State × Reply} (λ (a : Reply). (stateOf s, a)) (ask-same image q buffer)
 
 -- ---- every run

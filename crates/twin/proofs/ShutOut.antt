@@ -17,14 +17,15 @@ use Rattle.laws.proofs.Sorted.{move-in, move-back}
 use Rattle.path.specs.Address.{Address, child, off}
 use Rattle.path.proofs.Moves.{is-false, pick-yes}
 use Rattle.path.proofs.Laws.{on-off, off-on}
-use Rattle.model.specs.Things.{whole, Row, Dossier, State}
+use Rattle.model.specs.Things.{whole, Row, Dossier, Clipboard, State}
 use Rattle.model.specs.Decide.{Subject, Object, Provisions, nothing, joined, matched, owned, readBy, changeBy, ownBy, given, coverAny}
 use Rattle.model.specs.Moves.{oneStep, childStep, attributeAt, namesOn, childCount}
 use Rattle.model.specs.Refusals.{Request, subject, choose, Found, Cached, object, between, badOperand, atRoot, absent, taken, wrongClipboard, granted, permissionsOf, uncovered, clashing, totals, shelves, firstThat}
-use Rattle.model.specs.Run.{Call, request, Answer, done, contents, refused, Reply, dossier, found, cached, standing, answered, requested, step, runFrom, run}
+use Rattle.model.specs.Run.{Call, request, Answer, done, contents, refused, Reply, dossier, found, cached, standing, answered, requestedWith, requested, step, runFrom, run}
+use Rattle.model.specs.Image.{Loaded}
 use Rattle.model.specs.Starred.{permit, asks, noPermission, plain, numbers, twoChildren}
 use Rattle.twin.proofs.Children.{upto, oneStep-some}
-use Rattle.twin.proofs.Refusal.{Rows, only-then, judged, outcome, refused-is}
+use Rattle.twin.proofs.Refusal.{Rows, only-then, judged, outcome, refused-is, unread}
 use Rattle.twin.proofs.Requests.{tests, numbered}
 
 -- ---- a build that refuses all: "owners must be granted"
@@ -34,7 +35,7 @@ needed r f =
     choose (r .number) []
     ((1 ∷ 5 ∷ [], f .node ∷ [])
     ∷ (2 ∷ 11 ∷ [], f .attribute ∷ [])
-    ∷ (3 ∷ 4 ∷ 7 ∷ [], f .parent ∷ [])
+    ∷ (3 ∷ 4 ∷ 7 ∷ 17 ∷ [], f .parent ∷ [])
     ∷ (6 ∷ [], f .node ∷ f .parent ∷ [])
     ∷ (8 ∷ 9 ∷ 13 ∷ [], f .node ∷ [])
     ∷ (10 ∷ 12 ∷ [], f .attribute ∷ f .node ∷ [])
@@ -77,26 +78,28 @@ owned-granted s rest none h = absurd h
 owned-granted s rest (some o) h = pick-yes (owned s o) (some nothing) (rest o) (yes-eqb h)
 
 -- the owner of what a request needs is granted it, with no provisions
-pub owners-granted : (r : Request) (f : Found) → T (between 1 15 (r .number)) → All (OwnedBy (r .user)) (needed r f) → granted r f ≡ some nothing
+pub owners-granted : (r : Request) (f : Found) → T (between 1 17 (r .number)) → r .number ≢ 16 → All (OwnedBy (r .user)) (needed r f) → granted r f ≡ some nothing
 owners-granted r f t =
-    let w = and-yes (leb 1 (r .number)) (leb (r .number) 15) t in
-    let l : r .number ≤ 15 = leb→le (r .number) 15 (w .1) in
-    each-between (λ n. All (OwnedBy (r .user)) (needed (numbered n r) f) → granted (numbered n r) f ≡ some nothing) 15 1
-    ((λ h. read (f .node) (h .0))
-    also (λ h. read (f .attribute) (h .0))
-    also (λ h. change (f .parent) (h .0))
-    also (λ h. change (f .parent) (h .0))
-    also (λ h. read (f .node) (h .0))
-    also (λ h. ap₂ joined (read (f .node) (h .0)) (change (f .parent) (h .1 .0)))
-    also (λ h. change (f .parent) (h .0))
-    also (λ h. change (f .node) (h .0))
-    also (λ h. change (f .node) (h .0))
-    also (λ h. ap₂ joined (read (f .attribute) (h .0)) (change (f .node) (h .1 .0)))
-    also (λ h. read (f .attribute) (h .0))
-    also (λ h. ap₂ joined (read (f .attribute) (h .0)) (change (f .node) (h .1 .0)))
-    also (λ h. change (f .node) (h .0))
-    also (λ h. own (object r f) (h .0))
-    also (λ h. own (object r f) (h .0))
+    let w = and-yes (leb 1 (r .number)) (leb (r .number) 17) t in
+    let l : r .number ≤ 17 = leb→le (r .number) 17 (w .1) in
+    each-between (λ n. n ≢ 16 → All (OwnedBy (r .user)) (needed (numbered n r) f) → granted (numbered n r) f ≡ some nothing) 17 1
+    ((λ m h. read (f .node) (h .0))
+    also (λ m h. read (f .attribute) (h .0))
+    also (λ m h. change (f .parent) (h .0))
+    also (λ m h. change (f .parent) (h .0))
+    also (λ m h. read (f .node) (h .0))
+    also (λ m h. ap₂ joined (read (f .node) (h .0)) (change (f .parent) (h .1 .0)))
+    also (λ m h. change (f .parent) (h .0))
+    also (λ m h. change (f .node) (h .0))
+    also (λ m h. change (f .node) (h .0))
+    also (λ m h. ap₂ joined (read (f .attribute) (h .0)) (change (f .node) (h .1 .0)))
+    also (λ m h. read (f .attribute) (h .0))
+    also (λ m h. ap₂ joined (read (f .attribute) (h .0)) (change (f .node) (h .1 .0)))
+    also (λ m h. change (f .node) (h .0))
+    also (λ m h. own (object r f) (h .0))
+    also (λ m h. own (object r f) (h .0))
+    also (λ m h. absurd (m refl))
+    also (λ m h. change (f .parent) (h .0))
     also tt) (r .number) (leb→le 1 (r .number) (w .0)) (omega arith)
   where
     s : Subject
@@ -112,31 +115,30 @@ owners-granted r f t =
     own = owned-granted s (λ x. none)
 
 -- so his request is refused for nothing else
-pub owners-judged : (s : State) (r : Request) → T (between 1 15 (r .number)) → All (OwnedBy (r .user)) (needed r (found r (dossier (r .dossier) s)))
-    → judged s r ≡ firstThat (otherwise r (found r (dossier (r .dossier) s)) (cached (s .clipboard)) (length (s .log)))
-owners-judged s r t h =
+pub owners-judged : (s : State) (r : Request) (k : Clipboard) → T (between 1 17 (r .number)) → r .number ≢ 16 → All (OwnedBy (r .user)) (needed r (found r (dossier (r .dossier) s)))
+    → judged s r k ≡ firstThat (otherwise r (found r (dossier (r .dossier) s)) (cached k) (length (s .log)))
+owners-judged s r k t m h =
     (λ i. firstThat (tests r f c (standing r (s .signatures) (s .log)) (g i) (covered i))) ∙ ap (λ (n : ℕ). firstThat (otherwise r f c n)) (add-zero (length (s .log)))
   where
     f : Found
     f = found r (dossier (r .dossier) s)
 
     c : Cached
-    c = cached (s .clipboard)
+    c = cached k
 
     g : granted r f ≡ some nothing
-    g = owners-granted r f t h
+    g = owners-granted r f t m h
 
     covered : uncovered r f ≡ false
     covered = ap (λ (b : Bool). b && not (coverAny (subject r) (r .permission) (permissionsOf (object r f))))
-        (is-false (eqb (r .number) 16) (λ e. let d : r .number ≡ 16 = eqb→eq (r .number) 16 e in
-        let l : r .number ≤ 15 = leb→le (r .number) 15 (and-yes (leb 1 (r .number)) (leb (r .number) 15) t .1) in
-        omega arith))
+        (is-false (eqb (r .number) 16) (λ e. m (eqb→eq (r .number) 16 e)))
 
 -- and never 6: not granted
-pub owners-not-refused : (s : State) (r : Request) → T (between 1 15 (r .number)) → All (OwnedBy (r .user)) (needed r (found r (dossier (r .dossier) s)))
-    → requested s r .1 ≢ refused 6
-owners-not-refused s r t h e =
-    only-then 6 (otherwise r (found r (dossier (r .dossier) s)) (cached (s .clipboard)) (length (s .log))) (sym (owners-judged s r t h) ∙ refused-is s r 6 e)
+pub owners-not-refused : (s : State) (r : Request) (image : List ℕ) → T (between 1 17 (r .number)) → r .number ≢ 16 → All (OwnedBy (r .user)) (needed r (found r (dossier (r .dossier) s)))
+    → requested s r image .1 ≢ refused 6
+owners-not-refused s r image t m h e =
+    let w = refused-is s r image 6 e in
+    only-then 6 (otherwise r (found r (dossier (r .dossier) s)) (cached (w .0)) (length (s .log))) (sym (owners-judged s r (w .0) t m h) ∙ w .2)
 
 -- user 1 owns the root that start gives: he adds a node, reads, adds a permission, copies, pastes and deletes
 pub owners-run : numbers
@@ -146,16 +148,17 @@ unfolding step
 owners-run = refl
 
 -- ---- a build that says 9 where a shelf is full: "Refusal 9 stays only for a lent buffer that is too short", and a request is lent none
-pub never-nine : (s : State) (r : Request) → requested s r .1 ≢ refused 9
-never-nine s r e =
+pub never-nine : (s : State) (r : Request) (image : List ℕ) → requested s r image .1 ≢ refused 9
+never-nine s r image e =
     let f = found r (dossier (r .dossier) s) in
-    only-then 9 (tests r f (cached (s .clipboard)) (standing r (s .signatures) (s .log)) (granted r f) (uncovered r f)) (refused-is s r 9 e)
+    let w = refused-is s r image 9 e in
+    only-then 9 (tests r f (cached (w .0)) (standing r (s .signatures) (s .log)) (granted r f) (uncovered r f)) (w .2)
 
 -- ---- a build that gives a fixed answer: example 6
 -- a read of the root at a time, by user 5 in role 2
 abbrev readsAt : ℤ → Call
 readsAt t =
-    request (record { number = 1; dossier = 1; role = 2; user = 5; time = t; path = []; name = 0; value = whole 0; permission = noPermission })
+    request (record { number = 1; dossier = 1; role = 2; user = 5; time = t; path = []; name = 0; value = whole 0; permission = noPermission }) []
 
 -- "Permission 0..10: time −1 no match, 0 and 10 match, 11 none"
 pub example6-three-answers : numbers
@@ -203,8 +206,9 @@ child-count-is p d = (refl, λ i. (there i, back i))
     back i w = move-in (childStep p) (w .1) (child-step-exactly p (nodeRow (child p i) (w .0)) i .1 refl)
 
 -- and a read of a node that is not refused answers it, with the names on the node
-pub read-answers : (s : State) (r : Request) → r .number ≡ 1 → judged s r ≡ none
-    → requested s r .1 ≡ contents (namesOn (r .path) (dossier (r .dossier) s)) (childCount (r .path) (dossier (r .dossier) s))
-read-answers s r e n =
-    ap (λ (o : Option ℕ). outcome s r o .1) n
+pub read-answers : (s : State) (r : Request) (image : List ℕ) → r .number ≡ 1 → judged s r (s .clipboard) ≡ none
+    → requested s r image .1 ≡ contents (namesOn (r .path) (dossier (r .dossier) s)) (childCount (r .path) (dossier (r .dossier) s))
+read-answers s r image e n =
+    ap (λ (l : Loaded Clipboard). requestedWith s r l .1) (unread s r image (λ t. let d : r .number ≡ 17 = eqb→eq (r .number) 17 (and-yes (eqb (r .number) 17) _ t .0) in omega arith))
+    ∙ ap (λ (o : Option ℕ). outcome s r (s .clipboard) o .1) n
     ∙ ap (λ (k : ℕ). answered (numbered k r) (found r (dossier (r .dossier) s)) (attributeAt (r .path) (r .name) (dossier (r .dossier) s))) e

@@ -12,9 +12,9 @@ use Rattle.model.specs.Things.{Value, Attribute, Permission, Row, beforeNode, b
 use Rattle.model.specs.Decide.{Object, Provisions}
 use Rattle.model.specs.Moves.{keep, head, samePermission, grantRow}
 use Rattle.model.specs.Refusals.{Request, choose, Sizes, Found, Cached, missing, userGood, granted, provisions, firstThat, refusal}
-use Rattle.model.specs.Image.{Record, nodeRecord, attributeRecord, permissionRecord, Loaded, bad, good, loadFrom, bytesOf, nodeFits, attributeFits, permissionFits, left, there}
+use Rattle.model.specs.Image.{Record, nodeRecord, attributeRecord, permissionRecord, Loaded, bad, good, adding, loadFrom, bytesOf, nodeFits, attributeFits, permissionFits, left, there}
 use Rattle.model.specs.Run as run
-use Rattle.model.specs.Run.{Question, Call, start, new, load, save, saveClipboard, sign, takeLog, request, ask, Answer, done, refused, badRecord, Reply, reply, short, writes, dossierGood, signed, logged, logBytes, standing, mayAsk}
+use Rattle.model.specs.Run.{Question, Call, start, new, load, save, saveClipboard, sign, takeLog, request, ask, Answer, done, refused, badRecord, Reply, reply, short, writes, dossierGood, signed, logged, logBytes, standing, places, mayAsk}
 use Rattle.twin.specs.Tree.{Tree, node, fnil, kids, count, branch, look, pasteTree, deleteTree, setAt, height, weigh, table, then}
 
 -- ---- what a node and an attribute carry
@@ -192,7 +192,7 @@ edited r =
     choose (r .number) (λ t c. t)
     ((3 ∷ [], λ t c. pasteTree (leaf (r .user)) (r .path) t)
     ∷ (4 ∷ 6 ∷ [], λ t c. deleteTree (r .path) t)
-    ∷ (7 ∷ [], λ t c. pastedBranch r t c)
+    ∷ (7 ∷ 17 ∷ [], λ t c. pastedBranch r t c)
     ∷ (8 ∷ [], λ t c. setAt (withHolding (record { name = r .name; owner = r .user; value = r .value; permissions = [] })) (r .path) t)
     ∷ (9 ∷ 12 ∷ [], λ t c. setAt (withoutHolding (r .name)) (r .path) t)
     ∷ (10 ∷ [], λ t c. setAt (onHolding (r .name) (withValue (r .value))) (r .path) t)
@@ -235,17 +235,18 @@ withLog l s = record { one = s .one; two = s .two; clipboard = s .clipboard; sig
 abbrev pub withSignatures : List ℕ → Session → Session
 withSignatures l s = record { one = s .one; two = s .two; clipboard = s .clipboard; signatures = l; log = s .log }
 
-abbrev pub carriedOut : Session → Request → Found → Tree Node → Session × Answer
-carriedOut s r f t = (
+-- what there is to paste is the clipboard's, or the tree of request 17's image
+abbrev pub carriedOut : Session → Request → Found → Tree Node → Clip → Session × Answer
+carriedOut s r f t c = (
   withLog (logged (r .user) (provisions (granted r f) .messages) (s .log))
-      (withClipboard (clipped r t (s .clipboard)) (withDossier (r .dossier) (edited r t (s .clipboard)) s)),
+      (withClipboard (clipped r t (s .clipboard)) (withDossier (r .dossier) (edited r t c) s)),
   answered r f (holdingAt (r .path) (r .name) t),
 )
 
-abbrev pub requested : Session → Request → Session × Answer
-requested s r =
-    elim (refusal r (found r (dossier (r .dossier) s)) (cached (s .clipboard)) (standing r (s .signatures) (s .log))) [
-      | none ↦ carriedOut s r (found r (dossier (r .dossier) s)) (dossier (r .dossier) s)
+abbrev pub requestedFrom : Session → Request → Clip → Session × Answer
+requestedFrom s r c =
+    elim (refusal r (found r (dossier (r .dossier) s)) (cached c) (standing r (s .signatures) (s .log))) [
+      | none ↦ carriedOut s r (found r (dossier (r .dossier) s)) (dossier (r .dossier) s) c
       | some n ↦ (s, refused n)
     ]
 
@@ -279,6 +280,26 @@ accept t (permissionRecord r) =
 
 abbrev pub loadTree : List ℕ → Loaded (Option (Tree Node))
 loadTree b = loadFrom accept none b
+
+-- ---- request 17: a tree whose nodes and attributes are all the adding user's
+abbrev pub loadAdded : ℕ → List ℕ → Loaded (Option (Tree Node))
+loadAdded u b = loadFrom (adding u accept) none b
+
+-- (no image loads as no tree)
+abbrev pub asBranch : Loaded (Option (Tree Node)) → Loaded Clip
+asBranch (bad k) = bad k
+asBranch (good none) = bad 0
+asBranch (good (some t)) = good (branched t)
+
+abbrev pub source : Session → Request → List ℕ → Loaded Clip
+source s r image = pick (places r) (asBranch (loadAdded (r .user) image)) (good (s .clipboard))
+
+abbrev pub requestedWith : Session → Request → Loaded Clip → Session × Answer
+requestedWith s r (bad k) = (s, badRecord k)
+requestedWith s r (good c) = requestedFrom s r c
+
+abbrev pub requested : Session → Request → List ℕ → Session × Answer
+requested s r image = requestedWith s r (source s r image)
 
 -- ---- ask
 abbrev pub imageOf : Loaded (Option (Tree Node)) → Option (Tree Node)
@@ -317,7 +338,7 @@ step s (save n buffer) =
 step s (saveClipboard buffer) = let bytes = savedClip (s .clipboard) in writes (firstThat ((9, short bytes buffer) ∷ [])) s s bytes buffer
 step s (sign user agreement) = orRefused (firstThat ((1, not (userGood user && leb agreement 31)) ∷ [])) s (withSignatures (signed user agreement (s .signatures)) s) done
 step s (takeLog buffer) = let bytes = logBytes (s .log) in writes (firstThat ((9, short bytes buffer) ∷ [])) s (withLog [] s) bytes buffer
-step s (request r) = let out = requested s r in (out .0, reply (out .1) [])
+step s (request r image) = let out = requested s r image in (out .0, reply (out .1) (image ∷ []))
 step s (ask image q buffer) = (s, asked image q buffer (imageOf (loadTree image)))
 
 abbrev pub runFrom : Session → List Call → List Reply

@@ -57,23 +57,23 @@ pub struct Word {
     pub end: usize,
 }
 
-// The first words of a line; a call has at most sixteen, so seventeen are too many.
+// The first words of a line; a call has at most seventeen, so eighteen are too many.
 pub struct Words {
-    pub at: [Word; 17],
+    pub at: [Word; 18],
     pub count: usize,
 }
 
 pub fn words_in(line: &[u8]) -> Words
-    ensures { λ r. ⌜ r .count ≤ 17 ⌝ }
+    ensures { λ r. ⌜ r .count ≤ 18 ⌝ }
 {
     let none = Word { start: 0, end: 0 };
     let mut ws = Words {
-        at: [none; 17],
+        at: [none; 18],
         count: 0,
     };
     let mut from: usize = 0;
     let mut n: usize = 0;
-    while n < 17 {
+    while n < 18 {
         let end = part_end(line, from, 32);
         if from < end {
             ws.at[n] = Word {

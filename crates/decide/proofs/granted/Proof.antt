@@ -10,7 +10,7 @@ use Rattle.tables.specs.View.{viewDossier}
 use Rattle.grants.specs.View.{viewSubject}
 use Rattle.path.proofs.Structs.{parent-sound}
 use Rattle.decide.proofs.Objects.{both-joined, on-parent}
-use Rattle.decide.proofs.Numbers.{one, two}
+use Rattle.decide.proofs.Numbers.{one, two, three}
 use Rattle.decide.proofs.granted.Statement.{statement}
 use Rattle.decide.proofs.granted.Tie as tie
 
@@ -90,7 +90,7 @@ returns-3 : tie.Need-returns-3
 returns-3 c =
     let s = c .before .before .before .before .before in
     let h = on-parent (changeBy (viewSubject (s .args .a .subject))) (s .args .a .path) (viewDossier (s .args .d)) (c .before .parent-of .ensures) (c .change-node .ensures) in
-    two (s .args .a) (s .args .d) (c .before .before .match .keys3) h h
+    three (s .args .a) (s .args .d) (c .before .before .match .keys3) h h h
 
 returns-4 : tie.Need-returns-4
 returns-4 c =
@@ -156,7 +156,7 @@ returns-12 c =
       ne-eqb n 4 (r .0 .0 .0 .0 .0 .0 .0 .1),
       ne-eqb n 5 (λ e. r .0 .0 .0 .0 .0 .0 .0 .0 .0 .0 .1 (inr e)),
       ne-eqb n 6 (r .0 .0 .0 .0 .0 .0 .1),
-      ne-eqb n 7 (λ e. r .0 .0 .0 .0 .0 .0 .0 .0 .1 (inr e)),
+      ne-eqb n 7 (λ e. r .0 .0 .0 .0 .0 .0 .0 .0 .1 (inr (inl e))),
       ne-eqb n 8 (λ e. r .0 .0 .0 .0 .0 .1 (inl e)),
       ne-eqb n 9 (r .0 .0 .0 .0 .1),
       ne-eqb n 10 (λ e. r .0 .0 .0 .1 (inl e)),
@@ -166,6 +166,7 @@ returns-12 c =
       ne-eqb n 14 (r .0 .0 .1),
       ne-eqb n 15 (r .0 .1),
       ne-eqb n 16 (r .1),
+      ne-eqb n 17 (λ e. r .0 .0 .0 .0 .0 .0 .0 .0 .1 (inr (inr e))),
     )
 
 pub granted-spec : {M : Type 1} → statement M

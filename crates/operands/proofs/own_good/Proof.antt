@@ -87,27 +87,31 @@ returns-16 : tie.Need-returns-16
 returns-16 c = one ownGood (viewRequest (c .before .before .args .r)) (c .before .match .keys16) (c .delegated-good .ensures)
 
 returns-17 : tie.Need-returns-17
-returns-17 c =
+returns-17 c = one ownGood (viewRequest (c .before .args .r)) (c .match .keys17) refl
+
+returns-18 : tie.Need-returns-18
+returns-18 c =
     let n = c .before .args .r .number in
     let r = c .match .rest in
     simp (
-      ne-eqb n 1 (r .0 .0 .0 .0 .0 .0 .0 .0 .0 .0 .0 .0 .0 .0 .0 .1),
-      ne-eqb n 2 (r .0 .0 .0 .0 .0 .0 .0 .0 .0 .0 .0 .0 .0 .0 .1),
-      ne-eqb n 3 (r .0 .0 .0 .0 .0 .0 .0 .0 .0 .0 .0 .0 .0 .1),
-      ne-eqb n 4 (r .0 .0 .0 .0 .0 .0 .0 .0 .0 .0 .0 .0 .1),
-      ne-eqb n 5 (r .0 .0 .0 .0 .0 .0 .0 .0 .0 .0 .0 .1),
-      ne-eqb n 6 (r .0 .0 .0 .0 .0 .0 .0 .0 .0 .0 .1),
-      ne-eqb n 7 (r .0 .0 .0 .0 .0 .0 .0 .0 .0 .1),
-      ne-eqb n 8 (r .0 .0 .0 .0 .0 .0 .0 .0 .1),
-      ne-eqb n 9 (r .0 .0 .0 .0 .0 .0 .0 .1),
-      ne-eqb n 10 (r .0 .0 .0 .0 .0 .0 .1),
-      ne-eqb n 11 (r .0 .0 .0 .0 .0 .1),
-      ne-eqb n 12 (r .0 .0 .0 .0 .1),
-      ne-eqb n 13 (r .0 .0 .0 .1),
-      ne-eqb n 14 (r .0 .0 .1),
-      ne-eqb n 15 (r .0 .1),
-      ne-eqb n 16 (r .1),
+      ne-eqb n 1 (r .0 .0 .0 .0 .0 .0 .0 .0 .0 .0 .0 .0 .0 .0 .0 .0 .1),
+      ne-eqb n 2 (r .0 .0 .0 .0 .0 .0 .0 .0 .0 .0 .0 .0 .0 .0 .0 .1),
+      ne-eqb n 3 (r .0 .0 .0 .0 .0 .0 .0 .0 .0 .0 .0 .0 .0 .0 .1),
+      ne-eqb n 4 (r .0 .0 .0 .0 .0 .0 .0 .0 .0 .0 .0 .0 .0 .1),
+      ne-eqb n 5 (r .0 .0 .0 .0 .0 .0 .0 .0 .0 .0 .0 .0 .1),
+      ne-eqb n 6 (r .0 .0 .0 .0 .0 .0 .0 .0 .0 .0 .0 .1),
+      ne-eqb n 7 (r .0 .0 .0 .0 .0 .0 .0 .0 .0 .0 .1),
+      ne-eqb n 8 (r .0 .0 .0 .0 .0 .0 .0 .0 .0 .1),
+      ne-eqb n 9 (r .0 .0 .0 .0 .0 .0 .0 .0 .1),
+      ne-eqb n 10 (r .0 .0 .0 .0 .0 .0 .0 .1),
+      ne-eqb n 11 (r .0 .0 .0 .0 .0 .0 .1),
+      ne-eqb n 12 (r .0 .0 .0 .0 .0 .1),
+      ne-eqb n 13 (r .0 .0 .0 .0 .1),
+      ne-eqb n 14 (r .0 .0 .0 .1),
+      ne-eqb n 15 (r .0 .0 .1),
+      ne-eqb n 16 (r .0 .1),
+      ne-eqb n 17 (r .1),
     )
 
 pub own-good-spec : {M : Type 1} → statement M
-own-good-spec = tie.close (tie.spec name-good-requires named-good-requires name-good-requires-2 named-good-requires-2 name-good-requires-3 name-good-requires-4 name-good-requires-5 grant-good-requires grant-good-requires-2 delegated-good-requires returns returns-2 returns-3 returns-4 returns-5 returns-6 returns-7 returns-8 returns-9 returns-10 returns-11 returns-12 returns-13 returns-14 returns-15 returns-16 returns-17)
+own-good-spec = tie.close (tie.spec name-good-requires named-good-requires name-good-requires-2 named-good-requires-2 name-good-requires-3 name-good-requires-4 name-good-requires-5 grant-good-requires grant-good-requires-2 delegated-good-requires returns returns-2 returns-3 returns-4 returns-5 returns-6 returns-7 returns-8 returns-9 returns-10 returns-11 returns-12 returns-13 returns-14 returns-15 returns-16 returns-17 returns-18)

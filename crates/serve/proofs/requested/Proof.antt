@@ -11,8 +11,8 @@ via-request-requires c κs = search needs
 
 returns : tie.Need-returns
 returns c =
-    let s = c .before in
-    stepped-sound (s .args .s) (run.request (viewRequest (s .args .r))) (c .via-request .result) (s .pre) (c .via-request .ensures)
+    let s = c .before .before in
+    stepped-sound (s .args .s) (run.request (viewRequest (s .args .r)) (s .args .image .now)) (c .via-request .result) (s .pre) (c .via-request .ensures)
 
 pub requested-spec : {M : Type 1} → statement M
 requested-spec = tie.close (tie.spec via-request-requires returns)

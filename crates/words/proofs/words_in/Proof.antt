@@ -7,7 +7,7 @@ use Rattle.words.proofs.words_in.Statement.{statement}
 use Rattle.words.proofs.words_in.Tie as tie
 
 abbrev Inv-loop : tie.InvT-loop
-Inv-loop line ws₀ from₀ n₀ ws from n = (from ≤ length line) × (n ≤ 17) × (ws .count ≡ n)
+Inv-loop line ws₀ from₀ n₀ ws from n = (from ≤ length line) × (n ≤ 18) × (ws .count ≡ n)
 
 abbrev μ-loop : tie.MeasureT-loop
 μ-loop line ws₀ from₀ n₀ ws from n = length line - from

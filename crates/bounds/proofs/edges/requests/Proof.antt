@@ -1,14 +1,14 @@
--- `bounds::edges::requests` is safe: the number ends at 18. Assumes nothing.
+-- `bounds::edges::requests` is safe: the number ends at 19. Assumes nothing.
 use borrow.Author.Needs.{needs}
 use Prim.Native.Nat.{_≤_, _-_}
 use Rattle.bounds.proofs.edges.requests.Statement.{statement}
 use Rattle.bounds.proofs.edges.requests.Tie as tie
 
 abbrev Inv-loop : tie.InvT-loop
-Inv-loop d s number₀ number = number ≤ 18
+Inv-loop d s number₀ number = number ≤ 19
 
 abbrev μ-loop : tie.MeasureT-loop
-μ-loop d s number₀ number = 18 - number
+μ-loop d s number₀ number = 19 - number
 
 loop-holds : tie.Need-loop-holds Inv-loop μ-loop
 loop-holds c = search needs

@@ -8,7 +8,7 @@ abbrev Inv-loop : tie.InvT-loop
 Inv-loop line kind ws c₀ n i₀ c i = 1 ≤ i
 
 abbrev μ-loop : tie.MeasureT-loop
-μ-loop line kind ws c₀ n i₀ c i = 17 - i
+μ-loop line kind ws c₀ n i₀ c i = 18 - i
 
 begun-requires : tie.Need-begun-requires Inv-loop μ-loop
 begun-requires c κs = search needs

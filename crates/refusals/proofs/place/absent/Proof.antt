@@ -67,7 +67,7 @@ returns-5 c =
     let s = c .before .before .before .before in
     let r = viewPlaced (s .args .q) in
     let h = c .no-place .ensures in
-    or (rule s) r (c .before .match .keys5) h (λ e. one (rule s) r e h)
+    or (rule s) r (c .before .match .keys5) h (λ e. or (rule s) r e h (λ e. one (rule s) r e h))
 
 returns-6 : tie.Need-returns-6
 returns-6 c =
@@ -94,7 +94,7 @@ returns-8 c =
       ne-eqb n 4 (λ e. r .0 .0 .0 .0 .0 .0 .1 (inr (inl e))),
       ne-eqb n 5 (r .0 .0 .0 .0 .0 .1),
       ne-eqb n 6 (λ e. r .0 .0 .0 .0 .0 .0 .1 (inr (inr (inl e)))),
-      ne-eqb n 7 (λ e. r .0 .0 .1 (inr e)),
+      ne-eqb n 7 (λ e. r .0 .0 .1 (inr (inl e))),
       ne-eqb n 8 (λ e. r .0 .0 .0 .0 .0 .0 .1 (inr (inr (inr (inl e))))),
       ne-eqb n 9 (λ e. r .0 .0 .0 .0 .1 (inr (inl e))),
       ne-eqb n 10 (λ e. r .0 .0 .0 .1 (inl e)),
@@ -104,6 +104,7 @@ returns-8 c =
       ne-eqb n 14 (λ e. r .0 .1 (inl e)),
       ne-eqb n 15 (r .1),
       ne-eqb n 16 (λ e. r .0 .1 (inr e)),
+      ne-eqb n 17 (λ e. r .0 .0 .1 (inr (inr e))),
     )
 
 pub absent-spec : {M : Type 1} → statement M

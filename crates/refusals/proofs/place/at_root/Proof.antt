@@ -16,9 +16,9 @@ returns : tie.Need-returns
 returns c =
     let q = c .before .args .q in
     let n = q .number in
-    let seven = or-last (eqb n 7) in
+    let last = or-last (eqb n 17) in
     let root = ap (λ k. eqb k 0) (c .size .ensures .0) ∙ root-size (steps (q .path)) in
-    λ i. (eqb n 3 || (eqb n 4 || (eqb n 6 || seven i))) && root i
+    λ i. (eqb n 3 || (eqb n 4 || (eqb n 6 || (eqb n 7 || last i)))) && root i
 
 pub at-root-spec : {M : Type 1} → statement M
 at-root-spec = tie.close (tie.spec size-requires returns)

@@ -37,7 +37,8 @@ returns : tie.Need-returns
 returns c =
     let m = c .before .before .before in
     let s = m .before in
-    one (rule s) (viewPlaced (s .args .q)) (m .match .keys1) (c .attributes-over .ensures ∙ ap (λ n. refusals.attributesOver (n + s .args .c .attributes)) (attributes-size (s .pre .0)))
+    let h = c .attributes-over .ensures ∙ ap (λ n. refusals.attributesOver (n + s .args .c .attributes)) (attributes-size (s .pre .0)) in
+    or (rule s) (viewPlaced (s .args .q)) (m .match .keys1) h (λ e. one (rule s) (viewPlaced (s .args .q)) e h)
 
 returns-2 : tie.Need-returns-2
 returns-2 c =
@@ -53,7 +54,7 @@ returns-3 c =
     let room = attributes-room (c .before .pre .0) in
     let size = attributes-size (c .before .pre .0) in
     let fits : length (viewAttributes (a .d .attributes)) ≤ 256 = omega arith in
-    sym (no-attributes (viewPlaced (a .q)) (foundFor (a .d) (a .q)) (viewCache (a .c)) fits (r .0 .1) (λ e. r .1 (inl e)) (λ e. r .1 (inr e)))
+    sym (no-attributes (viewPlaced (a .q)) (foundFor (a .d) (a .q)) (viewCache (a .c)) fits (λ e. r .0 .1 (inl e)) (λ e. r .0 .1 (inr e)) (λ e. r .1 (inl e)) (λ e. r .1 (inr e)))
 
 pub attributes-full-spec : {M : Type 1} → statement M
 attributes-full-spec = tie.close (tie.spec add-attributes-over attributes-over-requires add-attributes-over-2 attributes-over-requires-2 returns returns-2 returns-3)

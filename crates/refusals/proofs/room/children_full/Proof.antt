@@ -47,13 +47,14 @@ returns c =
     let up = ap steps (p .parent-of .ensures) ∙ view-path (parent (steps (s .args .q .path))) in
     let children = c .before .children-in .ensures ∙ ap (λ z. childCount z (viewDossier (s .args .d))) up in
     let h = c .children-over .ensures ∙ ap (λ n. refusals.childrenOver (n + 1)) children in
-    or (rule s) (viewPlaced (s .args .q)) (m .match .keys1) h (λ e. one (rule s) (viewPlaced (s .args .q)) e h)
+    let r = viewPlaced (s .args .q) in
+    or (rule s) r (m .match .keys1) h (λ e. or (rule s) r e h (λ e. one (rule s) r e h))
 
 returns-2 : tie.Need-returns-2
 returns-2 c =
     let a = c .before .args in
     let r = c .match .rest in
-    sym (no-branch (viewPlaced (a .q)) (foundFor (a .d) (a .q)) (viewCache (a .c)) (λ t. refusals.childrenOver (t .children)) refl (λ x y. refl) (λ e. r .1 (inl e)) (λ e. r .1 (inr e)))
+    sym (no-branch (viewPlaced (a .q)) (foundFor (a .d) (a .q)) (viewCache (a .c)) (λ t. refusals.childrenOver (t .children)) refl (λ x y. refl) (λ e. r .1 (inl e)) (λ e. r .1 (inr (inl e))) (λ e. r .1 (inr (inr e))))
 
 pub children-full-spec : {M : Type 1} → statement M
 children-full-spec = tie.close (tie.spec parent-of-requires children-in-requires add-children-over children-over-requires returns returns-2)

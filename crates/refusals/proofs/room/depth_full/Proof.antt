@@ -1,6 +1,7 @@
 -- `refusals::room::depth_full` meets its contract: only a branch goes deeper. Assumes nothing.
 use Prim.Native.Nat.{_+_}
-use Rattle.operands.proofs.Numbers.{one}
+use mathlib.Core.Logic.{inl, inr}
+use Rattle.operands.proofs.Numbers.{one, or}
 use Rattle.refusals.proofs.Totals.{no-branch}
 use Rattle.refusals.proofs.room.depth_full.Statement.{statement}
 use Rattle.refusals.proofs.room.depth_full.Tie as tie
@@ -43,12 +44,13 @@ returns-2 : tie.Need-returns-2
 returns-2 c =
     let m = c .before .before .before in
     let s = m .before in
-    one (rule s) (viewPlaced (s .args .q)) (m .match .keys2) (c .depth-over2 .ensures ∙ ap (λ n. refusals.depthOver (n + s .args .c .height)) (c .before .before .size2 .ensures .0))
+    let h = c .depth-over2 .ensures ∙ ap (λ n. refusals.depthOver (n + s .args .c .height)) (c .before .before .size2 .ensures .0) in
+    or (rule s) (viewPlaced (s .args .q)) (m .match .keys2) h (λ e. one (rule s) (viewPlaced (s .args .q)) e h)
 
 returns-3 : tie.Need-returns-3
 returns-3 c =
     let a = c .before .args in
-    sym (no-branch (viewPlaced (a .q)) (foundFor (a .d) (a .q)) (viewCache (a .c)) (λ t. refusals.depthOver (t .depth)) refl (λ x y. refl) (c .match .rest .0 .1) (c .match .rest .1))
+    sym (no-branch (viewPlaced (a .q)) (foundFor (a .d) (a .q)) (viewCache (a .c)) (λ t. refusals.depthOver (t .depth)) refl (λ x y. refl) (c .match .rest .0 .1) (λ e. c .match .rest .1 (inl e)) (λ e. c .match .rest .1 (inr e)))
 
 pub depth-full-spec : {M : Type 1} → statement M
 depth-full-spec = tie.close (tie.spec size-requires depth-over-requires size-requires-2 add-depth-over depth-over-requires-2 returns returns-2 returns-3)

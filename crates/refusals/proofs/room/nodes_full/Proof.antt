@@ -1,6 +1,7 @@
 -- `refusals::room::nodes_full` meets its contract: only a branch adds nodes. Assumes nothing.
 use Prim.Native.Nat.{_+_}
-use Rattle.operands.proofs.Numbers.{one}
+use mathlib.Core.Logic.{inl, inr}
+use Rattle.operands.proofs.Numbers.{one, or}
 use Rattle.refusals.proofs.Objects.{nodes-size, nodes-room}
 use Rattle.refusals.proofs.Totals.{no-branch}
 use Rattle.refusals.proofs.room.nodes_full.Statement.{statement}
@@ -38,12 +39,13 @@ returns-2 : tie.Need-returns-2
 returns-2 c =
     let m = c .before .before .before in
     let s = m .before in
-    one (rule s) (viewPlaced (s .args .q)) (m .match .keys2) (c .nodes-over2 .ensures ∙ ap (λ n. refusals.nodesOver (n + s .args .c .nodes)) (nodes-size (s .pre .0)))
+    let h = c .nodes-over2 .ensures ∙ ap (λ n. refusals.nodesOver (n + s .args .c .nodes)) (nodes-size (s .pre .0)) in
+    or (rule s) (viewPlaced (s .args .q)) (m .match .keys2) h (λ e. one (rule s) (viewPlaced (s .args .q)) e h)
 
 returns-3 : tie.Need-returns-3
 returns-3 c =
     let a = c .before .args in
-    sym (no-branch (viewPlaced (a .q)) (foundFor (a .d) (a .q)) (viewCache (a .c)) (λ t. refusals.nodesOver (t .nodes)) refl (λ x y. refl) (c .match .rest .0 .1) (c .match .rest .1))
+    sym (no-branch (viewPlaced (a .q)) (foundFor (a .d) (a .q)) (viewCache (a .c)) (λ t. refusals.nodesOver (t .nodes)) refl (λ x y. refl) (c .match .rest .0 .1) (λ e. c .match .rest .1 (inl e)) (λ e. c .match .rest .1 (inr e)))
 
 pub nodes-full-spec : {M : Type 1} → statement M
 nodes-full-spec = tie.close (tie.spec add-nodes-over nodes-over-requires add-nodes-over-2 nodes-over-requires-2 returns returns-2 returns-3)

@@ -38,7 +38,8 @@ returns c =
     let m = c .before .before .before in
     let s = m .before in
     let h = c .permissions-over .ensures ∙ ap (λ n. refusals.permissionsOver (n + s .args .c .permissions)) (permissions-size (s .pre .0)) in
-    or (rule s) (viewPlaced (s .args .q)) (m .match .keys1) h (λ e. one (rule s) (viewPlaced (s .args .q)) e h)
+    let r = viewPlaced (s .args .q) in
+    or (rule s) r (m .match .keys1) h (λ e. or (rule s) r e h (λ e. one (rule s) r e h))
 
 returns-2 : tie.Need-returns-2
 returns-2 c =
@@ -54,7 +55,7 @@ returns-3 c =
     let room = permissions-room (c .before .pre .0) in
     let size = permissions-size (c .before .pre .0) in
     let fits : length (viewPermissions (a .d .permissions)) ≤ 128 = omega arith in
-    sym (no-permissions (viewPlaced (a .q)) (foundFor (a .d) (a .q)) (viewCache (a .c)) fits (λ e. r .0 .1 (inl e)) (λ e. r .0 .1 (inr e)) (λ e. r .1 (inl e)) (λ e. r .1 (inr e)))
+    sym (no-permissions (viewPlaced (a .q)) (foundFor (a .d) (a .q)) (viewCache (a .c)) fits (λ e. r .0 .1 (inl e)) (λ e. r .0 .1 (inr (inr e))) (λ e. r .0 .1 (inr (inl e))) (λ e. r .1 (inl e)) (λ e. r .1 (inr e)))
 
 pub permissions-full-spec : {M : Type 1} → statement M
 permissions-full-spec = tie.close (tie.spec add-permissions-over permissions-over-requires add-permissions-over-2 permissions-over-requires-2 returns returns-2 returns-3)

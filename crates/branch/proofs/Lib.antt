@@ -1,0 +1,3 @@
+pub mod Changes
+pub mod Before
+pub mod Told

@@ -1,0 +1,4 @@
+pub mod Allowed
+pub mod Pasting
+pub mod Looked
+pub mod Left
