@@ -23,7 +23,7 @@ use Rattle.tables.specs.declared.Grant.{Grant}
 use Rattle.tables.specs.declared.Nodes.{Nodes}
 use Rattle.tables.specs.declared.Attributes.{Attributes}
 use Rattle.tables.specs.declared.Permissions.{Permissions}
-use Rattle.tables.specs.View.{viewValue, viewGrant, NodeSound, AttributeSound, PermissionSound, viewNodes, nodesOf, NodesSound, viewAttributes, attributesOf, AttributesSound, viewPermissions, permissionsOf, PermissionsSound, DossierFits, Fits}
+use Rattle.tables.specs.View.{viewValue, viewGrant, nodeRow, NodeSound, AttributeSound, PermissionSound, viewNodes, nodesOf, NodesSound, viewAttributes, attributesOf, AttributesSound, viewPermissions, permissionsOf, PermissionsSound, DossierFits, Fits}
 use Rattle.tables.proofs.Rows.{value-there, view-nodes, view-attributes, view-permissions}
 use Rattle.roundtrip.proofs.Orders.{attribute-order, ltNamed, named-order, row-order}
 
@@ -85,8 +85,8 @@ no-nodes = empty ltb ℕ-order 64 nodesOf viewNodes (λ t. t .count) view-nodes 
 pub with-node : {t r : Nodes} {p : Path} (u : ℕ) → NodesSound t → PathSound p → t .count < 64 → r ≡ nodesOf (insert things.beforeNode (steps p, u) (viewNodes t)) → NodesSound r
 with-node = with-row ltb ℕ-order 64 nodesOf viewNodes (λ t. t .count) view-nodes node-count
 
-pub node-at : {p : Path} (u : ℕ) → PathSound p → NodeSound (record { path = p; owner = u })
-node-at u h = record { model = (h .model, u); same = λ i. record { path = h .same i; owner = u }; fits = h .fits }
+pub node-at : {p : Path} (u : ℕ) → PathSound p → NodeSound (nodeRow p u)
+node-at u h = record { model = (h .model, u); same = λ i. nodeRow (h .same i) u; fits = h .fits }
 
 -- ---- attributes
 attribute-count : (l : List (Row things.Attribute)) → attributesOf l .count ≡ length l

@@ -68,6 +68,7 @@ fn with_node(t: Nodes, p: Path, owner: u8) -> Nodes
             let a = Node {
                 path: p,
                 owner: owner,
+                unused: [0; 7],
             };
             nodes::insert(a, t)
         }

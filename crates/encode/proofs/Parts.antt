@@ -1,18 +1,16 @@
 -- The parts of one record, one behind the other: seven bytes of a path, sixteen that every kind has. Assumes nothing.
 use mathlib.Core.Path.{_≡_, ap, _∙_}
 use mathlib.Core.List.{List, [], _∷_, _++_}
-use Prim.Native.Nat.{ℕ, suc, _+_, _≤_}
+use Prim.Native.Nat.{ℕ, _+_, _≤_}
 use native.Mathlib.Omega.{arith}
-use lib.Dec.{T}
 use lib.ListN.{length, length-append}
 use Rattle.laws.specs.Slots.{put, slots}
-use Rattle.laws.proofs.Fill.{is-fits}
 use Rattle.laws.proofs.Put.{put-length, then}
 use Rattle.path.specs.declared.Path.{Path}
-use Rattle.path.specs.Address.{Address, valid}
 use Rattle.path.specs.Bytes.{stepBytes}
-use Rattle.path.specs.View.{steps, pathOf, PathSound}
-use Rattle.path.proofs.Structs.{slots-length, valid-short, view-path}
+use Rattle.path.specs.View.{steps, PathSound}
+use Rattle.path.proofs.Structs.{valid-short, path-valid}
+use Rattle.path.proofs.Bytes.{bytes-length}
 use Rattle.model.specs.Image.{bytes2, front}
 
 -- ys stand where xs end
@@ -21,7 +19,7 @@ behind l m k at n xs ys e f h room = then l m k at xs ys e (f ∙ ap (λ (j : �
 
 module _ (p : Path) (sound : PathSound p) where
   pub steps-length : length (stepBytes (steps p)) ≡ 7
-  steps-length = ap suc (slots-length 6 0 (steps p) (valid-short (steps p) (is-fits pathOf steps view-path (λ (l : Address). T (valid l)) p sound)))
+  steps-length = bytes-length (steps p) (valid-short (steps p) (path-valid sound))
 
   pub front-length : (kind name owner role action user value : ℕ) → length (front kind (steps p) name owner role action user value) ≡ 16
   front-length kind name owner role action user value =

@@ -23,7 +23,7 @@ use Rattle.roundtrip.proofs.Found.{fits, fits-in, fits-out}
 use Rattle.tables.specs.declared.Nodes.{Nodes}
 use Rattle.tables.specs.declared.Attributes.{Attributes}
 use Rattle.tables.specs.declared.Permissions.{Permissions}
-use Rattle.tables.specs.View.{viewNodes, nodesWith, nodesOf, viewAttributes, attributesWith, attributesOf, noAttribute, viewPermissions, permissionsWith, permissionsOf, viewGrant}
+use Rattle.tables.specs.View.{nodeRow, viewNodes, nodesWith, nodesOf, viewAttributes, attributesWith, attributesOf, noAttribute, viewPermissions, permissionsWith, permissionsOf, viewGrant}
 use Rattle.tables.specs.Places.{Object, beforeObject, ofAttribute}
 use Rattle.tables.proofs.Rows.{view-nodes, view-attributes, view-permissions}
 use Rattle.tables.proofs.Tables.{nodes-none, attributes-none, nodes-count, attributes-count, permissions-count}
@@ -95,7 +95,7 @@ module _ {b : List ℕ} {n k : ℕ} {t : Nodes} (u : NodesUpto b n k t) (s : par
   node-breaks c f = breaks-fit b k _ (u .upto) (nodeRecord (node .row)) (node .found) n c (sym node-test ∙ f)
 
   abbrev pub withNode : Nodes
-  withNode = nodesWith (set (t .rows) (t .count) (record { path = s .path; owner = s .owner })) (t .count + 1)
+  withNode = nodesWith (set (t .rows) (t .count) (nodeRow (s .path) (s .owner))) (t .count + 1)
 
   module _ (f : nodeFitsIn (steps (s .path)) (viewNodes t) ≡ true) where
     more-nodes : Upto b (suc k) (record { nodes = viewNodes t ++ (node .row ∷ []); attributes = []; permissions = [] })
@@ -109,7 +109,7 @@ module _ {b : List ℕ} {n k : ℕ} {t : Nodes} (u : NodesUpto b n k t) (s : par
         omega arith
 
     stored-node : withNode ≡ nodesOf (viewNodes t ++ (node .row ∷ []))
-    stored-node = node-stored t (u .sound) node-room (node .row) (record { path = s .path; owner = s .owner }) (λ i. record { path = node .path i; owner = node .owner i })
+    stored-node = node-stored t (u .sound) node-room (node .row) (nodeRow (s .path) (s .owner)) (λ i. nodeRow (node .path i) (node .owner i))
 
     pub nodes-more : k < n → NodesUpto b n (k + 1) withNode
     nodes-more c =

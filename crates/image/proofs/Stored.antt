@@ -5,7 +5,7 @@ use Prim.Native.Nat.{ℕ, _+_, _<_}
 use native.Mathlib.Omega.{arith}
 use lib.ListN.{length, set, length-append, length-map}
 use Rattle.laws.specs.Slots.{slots}
-use Rattle.path.proofs.Structs.{slots-next}
+use Rattle.laws.proofs.Fill.{slots-next}
 use Rattle.model.specs.Things as things
 use Rattle.model.specs.Things.{Row}
 use Rattle.tables.specs.declared.Node.{Node}

@@ -114,6 +114,7 @@ pub fn read_nodes(image: &[u8], n: usize) -> NodesRead
         t.rows[c] = Node {
             path: p,
             owner: r.owner,
+            unused: [0; 7],
         };
         t.count = c + 1;
         k += 1;

@@ -8,7 +8,7 @@ ghost use Rattle.path.specs.Address.{down, off};
 ghost use Rattle.path.specs.View.{steps, PathSound};
 ghost use Rattle.model.specs.Things as things;
 ghost use Rattle.model.specs.Moves as model;
-ghost use Rattle.tables.specs.View.{viewNode, nodesOf, NodesSound, viewNodes, NodeSound};
+ghost use Rattle.tables.specs.View.{viewNode, nodeRow, nodesOf, NodesSound, viewNodes, NodeSound};
 ghost use Rattle.moves.specs.Moved.{below, raised};
 ghost use Rattle.moves.specs.Room.{FreshNode, Shallow};
 use path::Path;
@@ -26,11 +26,13 @@ use tables::order::node_before;
 
 // The same at another path: its owner stays.
 fn placed(a: Node, p: Path) -> Node
-    ensures { λ r. ⌜ r ≡ record { path = p; owner = a .owner } ⌝ }
+    ensures { λ r. ⌜ r ≡ nodeRow p (a .owner) ⌝ }
 {
-    let mut b = a;
-    b.path = p;
-    b
+    Node {
+        path: p,
+        owner: a.owner,
+        unused: [0; 7],
+    }
 }
 
 // After an add or a paste at q: at or below q, or a later sibling of it, that step is one higher; the others stay.
@@ -178,6 +180,7 @@ pub fn one(owner: u8) -> Nodes
     let a = Node {
         path: root(),
         owner: owner,
+        unused: [0; 7],
     };
     let none = no_nodes();
     insert(a, none)

@@ -15,7 +15,8 @@ use Rattle.path.specs.View.{steps, pathOf, PathSound, movedOf}
 use Rattle.path.specs.declared.Path.{Path}
 use Rattle.path.specs.declared.Moved.{Moved}
 use Rattle.path.proofs.Laws.{up-length, fall-length}
-use Rattle.path.proofs.Structs.{good-small, path-valid}
+use Rattle.path.proofs.Parts.{good-small}
+use Rattle.path.proofs.Structs.{path-valid}
 
 abbrev stepGood : ℕ → Bool
 stepGood s = leb 1 s && leb s 32

@@ -1,6 +1,9 @@
 pub mod Moves
 pub mod Laws
+pub mod Parts
+pub mod Pack
 pub mod Structs
 pub mod Number
+pub mod Steps
 pub mod Bytes
 pub mod Kept

@@ -1,21 +1,23 @@
 // Addresses: a path of 0 to 6 steps, each 1 to 32, and how it moves when a branch is put in front of it or taken away.
 //
+// A path is one number: its length and six steps, a byte each, unused steps 0, as bytes 1 to 7 of a record of the image. So numbers
+// are ordered as images are, and questions and moves are arithmetic on the number: none goes through the steps one by one.
 // Only this crate looks at the steps of a `Path`. A host's bytes are a `RawPath`, which `is_valid` takes as it comes and `path_of`
-// makes a path; an image's are read by `path_at` and written by `put_path`. The other functions are called with paths that stand
-// for an address (`PathSound`).
+// packs; an image's are packed by `path_at` and unpacked by `put_path`. The other functions are called with paths that stand for
+// an address (`PathSound`).
 ghost use mathlib.Core.Path.{_≡_};
-ghost use mathlib.Core.List.{[]};
-ghost use Prim.Native.Nat.{_+_, _<_, _≤_};
+ghost use mathlib.Core.List.{[], _∷_};
+ghost use Prim.Native.Nat.{_+_, _-_, _*_, _^_, _<_, _≤_};
 ghost use lib.Dec.{T};
 ghost use lib.ListN.{length, getD, take, drop};
 ghost use Rattle.laws.specs.Slots.{put};
 ghost use Rattle.path.specs.Address.{valid, same, before, under, beside, parent, last, child, up, fall, down, off, on, inDepth};
 ghost use Rattle.path.specs.Bytes.{stepBytes, readSteps, stepFits};
-ghost use Rattle.path.specs.View.{steps, asked, pathOf, PathSound, movedOf, number};
+ghost use Rattle.path.specs.Packed.{pack};
+ghost use Rattle.path.specs.View.{steps, asked, pathOf, PathSound, movedOf, keyOf, digitOf, rawOf};
 
 pub struct Path {
-    pub len: u8,
-    pub steps: [u8; 6],
+    pub key: u64,
 }
 
 // A path as a host gives it: any bytes.
@@ -29,6 +31,9 @@ pub struct Moved {
     pub there: bool,
     pub path: Path,
 }
+
+// What the length counts in the number: six digits below it are the steps.
+const STEPS: u64 = 281474976710656;
 
 // ---- a host's bytes
 
@@ -60,26 +65,42 @@ pub fn path_of(p: RawPath) -> Path
     ensures { λ r. ⌜ r ≡ pathOf (asked p) ⌝ }
 {
     let s = p.steps;
-    let mut r = Path {
-        len: p.len,
-        steps: s,
-    };
-    let mut i = p.len as usize;
-    while i < 6 {
-        r.steps[i] = 0;
+    let len = p.len;
+    let n = len as usize;
+    let mut k = wide(len);
+    let mut i: usize = 0;
+    while i < n {
+        k = k * 256 + wide(s[i]);
         i += 1;
     }
-    r
+    Path {
+        key: k << (48 - 8 * n),
+    }
+}
+
+// The bytes of a path, as a host has them. Any path will do.
+pub fn raw_of(p: Path) -> RawPath
+    ensures { λ r. ⌜ r ≡ rawOf p ⌝ }
+{
+    let s = [
+        digit(p, 1) as u8,
+        digit(p, 2) as u8,
+        digit(p, 3) as u8,
+        digit(p, 4) as u8,
+        digit(p, 5) as u8,
+        digit(p, 6) as u8,
+    ];
+    RawPath {
+        len: digit(p, 0) as u8,
+        steps: s,
+    }
 }
 
 // The path of no steps.
 pub fn root() -> Path
     ensures { λ r. ⌜ r ≡ pathOf [] ⌝ }
 {
-    Path {
-        len: 0,
-        steps: [0; 6],
-    }
+    Path { key: 0 }
 }
 
 // ---- an image's bytes: the length and six steps, unused ones 0
@@ -98,7 +119,7 @@ pub fn path_at(s: &[u8], at: usize) -> Moved
     }
     let first = at + 1;
     let n = len as usize;
-    let mut r = root();
+    let mut k = wide(len);
     let mut i: usize = 0;
     while i < 6 {
         let x = s[first + i];
@@ -108,13 +129,12 @@ pub fn path_at(s: &[u8], at: usize) -> Moved
                 path: root(),
             };
         }
-        r.steps[i] = x;
+        k = k * 256 + wide(x);
         i += 1;
     }
-    r.len = len;
     Moved {
         there: true,
-        path: r,
+        path: Path { key: k },
     }
 }
 
@@ -130,30 +150,14 @@ pub fn put_path(out: &mut [u8], at: usize, p: Path)
     requires { ⌜ PathSound p × (at + 7 ≤ length (now out)) ⌝ }
     ensures { λ r. ⌜ now (out .exit) ≡ put (now (out .entry)) at (stepBytes (steps p)) ⌝ }
 {
-    out[at] = p.len;
-    let to = at + 1;
     let mut k: usize = 0;
-    while k < 6 {
-        out[to + k] = p.steps[k];
+    while k < 7 {
+        out[at + k] = digit(p, k) as u8;
         k += 1;
     }
 }
 
-// ---- questions
-
-// A number whose order is the image order of paths: the length, then the steps, a digit each.
-pub fn key(p: Path) -> u64
-    ensures { λ r. ⌜ r ≡ number (p .len) (p .steps) ⌝ }
-{
-    let s = p.steps;
-    let mut k = wide(p.len);
-    let mut i: usize = 0;
-    while i < 6 {
-        k = k * 64 + wide(s[i]);
-        i += 1;
-    }
-    k
-}
+// ---- the number's parts
 
 fn wide(x: u8) -> u64
     ensures { λ r. ⌜ (r ≡ x) × (r < 256) ⌝ }
@@ -161,12 +165,45 @@ fn wide(x: u8) -> u64
     x as u64
 }
 
+// Digit n of p: its length for 0, else step n, counted from 1; 0 where p has no such step.
+fn digit(p: Path, n: usize) -> u64
+    requires { ⌜ n ≤ 6 ⌝ }
+    ensures { λ r. ⌜ (r ≡ digitOf n p) × (r < 256) × (PathSound p → r ≡ getD (length (steps p) ∷ steps p) n 0) ⌝ }
+{
+    (p.key >> (48 - 8 * n)) % 256
+}
+
+// The first n steps of p, as a number.
+fn front(p: Path, n: usize) -> u64
+    requires { ⌜ PathSound p × (n ≤ 6) ⌝ }
+    ensures { λ r. ⌜ r ≡ pack n (steps p) ⌝ }
+{
+    (p.key % STEPS) >> (48 - 8 * n)
+}
+
+// What s counts in the number as step n, counted from 1.
+fn placed(s: u64, n: usize) -> u64
+    requires { ⌜ (s < 256) × (n ≤ 6) ⌝ }
+    ensures { λ r. ⌜ r ≡ s * 256 ^ (6 - n) ⌝ }
+{
+    s << (48 - 8 * n)
+}
+
+// ---- questions
+
+// A number whose order is the image order of paths.
+pub fn key(p: Path) -> u64
+    ensures { λ r. ⌜ r ≡ keyOf p ⌝ }
+{
+    p.key
+}
+
 // Whether p comes before q in image order.
 pub fn is_before(p: Path, q: Path) -> bool
     requires { ⌜ PathSound p × PathSound q ⌝ }
     ensures { λ r. ⌜ r ≡ before (steps p) (steps q) ⌝ }
 {
-    key(p) < key(q)
+    p.key < q.key
 }
 
 // Whether p and q are the same path.
@@ -174,7 +211,7 @@ pub fn is_same(p: Path, q: Path) -> bool
     requires { ⌜ PathSound p × PathSound q ⌝ }
     ensures { λ r. ⌜ r ≡ same (steps p) (steps q) ⌝ }
 {
-    key(p) == key(q)
+    p.key == q.key
 }
 
 // Whether p is at least as long as q, which is not the root, and agrees with it in all its steps but the last.
@@ -182,23 +219,14 @@ pub fn is_beside(p: Path, q: Path) -> bool
     requires { ⌜ PathSound p × PathSound q ⌝ }
     ensures { λ r. ⌜ r ≡ beside (steps q) (steps p) ⌝ }
 {
-    let k = q.len as usize;
-    let n = p.len as usize;
+    let k = size(q);
     if k == 0 {
         return false;
     }
-    if n < k {
+    if size(p) < k {
         return false;
     }
-    let last = k - 1;
-    let mut i: usize = 0;
-    while i < last {
-        if p.steps[i] != q.steps[i] {
-            return false;
-        }
-        i += 1;
-    }
-    true
+    front(p, k - 1) == front(q, k - 1)
 }
 
 // Whether p is q or below q.
@@ -206,14 +234,8 @@ pub fn is_under(p: Path, q: Path) -> bool
     requires { ⌜ PathSound p × PathSound q ⌝ }
     ensures { λ r. ⌜ r ≡ under (steps q) (steps p) ⌝ }
 {
-    if q.len == 0 {
-        return true;
-    }
-    if !is_beside(p, q) {
-        return false;
-    }
-    let last = (q.len - 1) as usize;
-    q.steps[last] == p.steps[last]
+    let k = size(q);
+    front(p, k) == front(q, k)
 }
 
 // ---- parts
@@ -223,7 +245,7 @@ pub fn size(p: Path) -> usize
     requires { ⌜ PathSound p ⌝ }
     ensures { λ r. ⌜ (r ≡ length (steps p)) × (r ≤ 6) ⌝ }
 {
-    p.len as usize
+    (p.key >> 48) as usize
 }
 
 // Step i of p, counted from 0.
@@ -231,19 +253,16 @@ pub fn step_of(p: Path, i: usize) -> u8
     requires { ⌜ PathSound p × (i < length (steps p)) ⌝ }
     ensures { λ r. ⌜ r ≡ getD (steps p) i 0 ⌝ }
 {
-    p.steps[i]
+    digit(p, i + 1) as u8
 }
 
-// The last step of p, 0 for the root.
+// The last step of p, 0 for the root: the root's digit 0 is its length.
 pub fn last_step(p: Path) -> u8
     requires { ⌜ PathSound p ⌝ }
     ensures { λ r. ⌜ r ≡ last (steps p) ⌝ }
 {
-    if p.len == 0 {
-        return 0;
-    }
-    let at = (p.len - 1) as usize;
-    p.steps[at]
+    let n = size(p);
+    digit(p, n) as u8
 }
 
 // The path of the node above p, the root's for the root.
@@ -251,14 +270,14 @@ pub fn parent_of(p: Path) -> Path
     requires { ⌜ PathSound p ⌝ }
     ensures { λ r. ⌜ r ≡ pathOf (parent (steps p)) ⌝ }
 {
-    if p.len == 0 {
+    let k = size(p);
+    if k == 0 {
         return p;
     }
-    let at = (p.len - 1) as usize;
-    let mut r = p;
-    r.steps[at] = 0;
-    r.len = p.len - 1;
-    r
+    let less = placed(digit(p, k), k);
+    Path {
+        key: p.key - STEPS - less,
+    }
 }
 
 // The path of child s of p; none where that is too deep.
@@ -266,19 +285,19 @@ pub fn child_of(p: Path, s: u8) -> Moved
     requires { ⌜ PathSound p ⌝ }
     ensures { λ r. ⌜ r ≡ movedOf (inDepth (child (steps p) s)) ⌝ }
 {
-    if 6 <= p.len {
+    let k = size(p);
+    if 6 <= k {
         return Moved {
             there: false,
             path: root(),
         };
     }
-    let at = p.len as usize;
-    let mut r = p;
-    r.steps[at] = s;
-    r.len = p.len + 1;
+    let more = placed(wide(s), k + 1);
     Moved {
         there: true,
-        path: r,
+        path: Path {
+            key: p.key + STEPS + more,
+        },
     }
 }
 
@@ -292,14 +311,14 @@ pub fn path_up(p: Path, q: Path) -> Path
     if !is_beside(p, q) {
         return p;
     }
-    let last = (q.len - 1) as usize;
-    let s = p.steps[last];
-    if s < q.steps[last] {
+    let k = size(q);
+    if digit(p, k) < digit(q, k) {
         return p;
     }
-    let mut r = p;
-    r.steps[last] = s + 1;
-    r
+    let higher = placed(1, k);
+    Path {
+        key: p.key + higher,
+    }
 }
 
 // Where p stands after a delete at q, if it stays.
@@ -310,14 +329,12 @@ pub fn path_fall(p: Path, q: Path) -> Path
     if !is_beside(p, q) {
         return p;
     }
-    let last = (q.len - 1) as usize;
-    let s = p.steps[last];
-    if s <= q.steps[last] {
+    let k = size(q);
+    if digit(p, k) <= digit(q, k) {
         return p;
     }
-    let mut r = p;
-    r.steps[last] = s - 1;
-    r
+    let lower = placed(1, k);
+    Path { key: p.key - lower }
 }
 
 // Where p stands after a delete at q; none for q itself and what is below it.
@@ -349,18 +366,14 @@ pub fn path_off(p: Path, q: Path) -> Moved
             path: root(),
         };
     }
-    let k = q.len as usize;
-    let n = (p.len - q.len) as usize;
-    let mut r = root();
-    let mut i: usize = 0;
-    while i < n {
-        r.steps[i] = p.steps[k + i];
-        i += 1;
-    }
-    r.len = p.len - q.len;
+    let k = size(q);
+    let rest = p.key - q.key;
+    let low = rest % STEPS;
     Moved {
         there: true,
-        path: r,
+        path: Path {
+            key: rest - low + (low << (8 * k)),
+        },
     }
 }
 
@@ -369,23 +382,18 @@ pub fn path_on(p: Path, q: Path) -> Moved
     requires { ⌜ PathSound p × PathSound q ⌝ }
     ensures { λ r. ⌜ r ≡ movedOf (inDepth (on (steps q) (steps p))) ⌝ }
 {
-    if 6 < p.len + q.len {
+    let k = size(q);
+    if 6 < size(p) + k {
         return Moved {
             there: false,
             path: root(),
         };
     }
-    let k = q.len as usize;
-    let n = p.len as usize;
-    let mut r = q;
-    let mut i: usize = 0;
-    while i < n {
-        r.steps[k + i] = p.steps[i];
-        i += 1;
-    }
-    r.len = p.len + q.len;
+    let low = p.key % STEPS;
     Moved {
         there: true,
-        path: r,
+        path: Path {
+            key: q.key + (p.key - low) + (low >> (8 * k)),
+        },
     }
 }

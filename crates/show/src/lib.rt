@@ -8,6 +8,7 @@ use encode::pattern_of;
 use libc::STDOUT_FILENO;
 use path::Path;
 use path::key;
+use path::raw_of;
 use tables::Attribute;
 use tables::Attributes;
 use tables::Dossier;
@@ -46,7 +47,8 @@ fn indent(out: &mut [u8], p: Path, more: usize) -> usize {
     if 16 < more {
         return put_spaces(out, 16);
     }
-    put_spaces(out, 2 * (p.len as usize) + more)
+    let r = raw_of(p);
+    put_spaces(out, 2 * (r.len as usize) + more)
 }
 
 fn put_step(out: &mut [u8], at: usize, i: usize, step: u8) -> usize {
@@ -58,7 +60,8 @@ fn put_step(out: &mut [u8], at: usize, i: usize, step: u8) -> usize {
 }
 
 fn put_address(out: &mut [u8], at: usize, p: Path) -> usize {
-    let n = p.len as usize;
+    let r = raw_of(p);
+    let n = r.len as usize;
     if n == 0 {
         return put_byte(out, at, 47);
     }
@@ -68,7 +71,7 @@ fn put_address(out: &mut [u8], at: usize, p: Path) -> usize {
         if n <= i {
             return to;
         }
-        to = put_step(out, to, i, p.steps[i]);
+        to = put_step(out, to, i, r.steps[i]);
         i += 1;
     }
     to
@@ -233,7 +236,7 @@ fn show_attributes(t: Attributes, permissions: Permissions, p: Path, out: &mut [
 
 // Where a node is drawn: by its steps alone, so that a branch stays together. The root comes first.
 fn place_of(p: Path) -> u64 {
-    key(p) % 68719476736 + 1
+    key(p) % 281474976710656 + 1
 }
 
 // The row that is drawn next behind a place; 64 where there is none.

@@ -7,6 +7,7 @@ use lib.ListN.{length}
 use Rattle.laws.specs.Slots.{slots, Is}
 use Rattle.laws.proofs.Fill.{Held, seen, is-same}
 use Rattle.path.specs.declared.Path.{Path}
+use Rattle.path.specs.Packed.{number}
 use Rattle.path.specs.View.{pathOf, PathSound}
 use Rattle.path.proofs.Structs.{view-path}
 use Rattle.model.specs.Things as things
@@ -24,7 +25,7 @@ use Rattle.tables.specs.View.{AtPath, blankPath, viewValue, valueOf, vie
 
 -- ---- a blank row's path is the root's
 pub blank-path : pathOf [] ≡ blankPath
-unfolding pathOf
+unfolding number
 blank-path = refl
 
 -- ---- values

@@ -37,11 +37,11 @@ abbrev pub AtPath : {P : Type 0} → Row P → Type 0
 AtPath r = T (valid (r .0))
 
 abbrev pub blankPath : Path
-blankPath = record { len = 0; steps = 0 ∷ 0 ∷ 0 ∷ 0 ∷ 0 ∷ 0 ∷ [] }
+blankPath = record { key = 0 }
 
 -- a path read past the end of a table
 abbrev pub noPath : Path
-noPath = record { len = 0; steps = [] }
+noPath = record { key = 0 }
 
 -- ---- values
 abbrev pub viewValue : Value → things.Value
@@ -56,8 +56,12 @@ valueOf (things.reading x) = Reading x
 abbrev pub viewNode : Node → Row ℕ
 viewNode a = (steps (a .path), a .owner)
 
+-- a node's row, with its unused bytes
+abbrev pub nodeRow : Path → ℕ → Node
+nodeRow p user = record { path = p; owner = user; unused = 0 ∷ 0 ∷ 0 ∷ 0 ∷ 0 ∷ 0 ∷ 0 ∷ [] }
+
 abbrev pub nodeOf : Row ℕ → Node
-nodeOf r = record { path = pathOf (r .0); owner = r .1 }
+nodeOf r = nodeRow (pathOf (r .0)) (r .1)
 
 abbrev pub viewAttribute : Attribute → Row things.Attribute
 viewAttribute a = (steps (a .path), record { name = a .name; owner = a .owner; value = viewValue (a .value) })
@@ -109,10 +113,10 @@ Apart r s = T (same (r .0) (s .0) && eqb (r .1 .name) (s .1 .name)) → ⊥
 
 -- ---- blank rows, and rows read past the end of a table
 abbrev pub blankNode : Node
-blankNode = record { path = blankPath; owner = 0 }
+blankNode = nodeRow blankPath 0
 
 abbrev pub noNode : Node
-noNode = record { path = noPath; owner = 0 }
+noNode = record { path = noPath; owner = 0; unused = [] }
 
 abbrev pub blankAttribute : Attribute
 blankAttribute = record { path = blankPath; name = 0; owner = 0; value = Whole 0 }

@@ -14,9 +14,11 @@ pub enum Value {
     Reading(f32),
 }
 
+// The unused bytes, always 0, fill the row: with no hole in it a compiler blanks and copies a table as one block.
 pub struct Node {
     pub path: Path,
     pub owner: u8,
+    pub unused: [u8; 7],
 }
 
 pub struct Attribute {
@@ -102,6 +104,7 @@ pub fn blank_node() -> Node
     Node {
         path: root(),
         owner: 0,
+        unused: [0; 7],
     }
 }
 

@@ -50,7 +50,7 @@ loop-again c =
       search needs,
       search needs,
       change nodesWith nodeOf 64 blankNode viewNode (ownedNode (s .args .owner)) (nodes-held (s .args .t) (s .pre)) (l .inv .3) view-node
-          (λ a. record { path = a .path; owner = s .args .owner }) (λ m. refl) noNode (e .loop-test .taken),
+          (λ a. record { path = a .path; owner = s .args .owner; unused = a .unused }) (λ m. refl) noNode (e .loop-test .taken),
     )
 
 returns : tie.Need-returns Inv-loop μ-loop

@@ -8,7 +8,7 @@ use Rattle.laws.specs.Sorted.{_∈_, insert}
 use Rattle.path.specs.View.{steps}
 use Rattle.path.proofs.Structs.{view-path}
 use Rattle.model.specs.Things.{beforeNode}
-use Rattle.tables.specs.View.{nodesOf}
+use Rattle.tables.specs.View.{nodeRow, nodesOf}
 use Rattle.tables.proofs.Tables.{nodes-none, nodes-count}
 use Rattle.nodes.proofs.one.Statement.{statement}
 use Rattle.nodes.proofs.one.Tie as tie
@@ -28,7 +28,7 @@ insert-requires c κs =
     let none = nodes-none (c .no-nodes .ensures) in
     let e = nodes-count (c .no-nodes .result) (none .0) in
     let f = ap length (none .1) in (
-      record { model = ([], s .args .owner); same = λ i. record { path = (c .before .root .ensures) i; owner = s .args .owner }; fits = tt },
+      record { model = ([], s .args .owner); same = λ i. nodeRow ((c .before .root .ensures) i) (s .args .owner); fits = tt },
       none .0,
       omega arith,
       λ m. no-row (none .1) m,

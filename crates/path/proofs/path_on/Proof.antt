@@ -1,114 +1,85 @@
--- `path::path_on` meets its contract. The loop’s invariant: the array holds q and the steps of p that are copied, in slots. Assumes nothing.
+-- `path::path_on` meets its contract: the digits move down by as many as come. Assumes nothing.
 use borrow.Author.Needs.{needs}
-use mathlib.Core.Path.{_≡_, refl, sym, ap, _∙_}
-use mathlib.Core.List.{_++_, append-nil}
-use Prim.Native.Nat.{_-_, _≤_}
+use mathlib.Core.Path.{refl}
+use Prim.Native.Nat.{_*_, _%_, _^_}
+use native.Mathlib.Nat.{div-le-self}
 use native.Mathlib.Omega.{arith}
-use lib.ListN.{length, take, length-append, length-set}
-use lib.Seq.{take-all}
-use Rattle.laws.specs.Slots.{slots}
+use lib.ListN.{length-append}
 use Rattle.path.specs.Address.{on, inDepth}
 use Rattle.path.specs.View.{steps}
-use Rattle.path.proofs.Structs.{facts, path-is, slots-copy, there, gone, inDepth-fits, inDepth-deep}
+use Rattle.path.proofs.Parts.{inDepth-fits, inDepth-deep}
+use Rattle.path.proofs.Structs.{facts, there, gone}
+use Rattle.path.proofs.Steps.{on-path}
 use Rattle.path.proofs.path_on.Statement.{statement}
 use Rattle.path.proofs.path_on.Tie as tie
 
-abbrev Inv-loop : tie.InvT-loop
-Inv-loop q p k n r₀ i₀ r i = (i ≤ n) × (length (r .steps) ≡ 6) × (r .steps ≡ slots 6 0 (steps q ++ take i (steps p)))
+size-requires : tie.Need-size-requires
+size-requires c κs = search needs
 
-abbrev μ-loop : tie.MeasureT-loop
-μ-loop q p k n r₀ i₀ r i = n - i
+size-requires-2 : tie.Need-size-requires-2
+size-requires-2 c κs = search needs
 
-add-if1 : tie.Need-add-if1 Inv-loop μ-loop
-add-if1 c =
-    let p = facts (c .before .args .t1) (c .before .pre .0) .short in
-    let q = facts (c .before .args .q) (c .before .pre .1) .short in
-    omega arith
+add-if1 : tie.Need-add-if1
+add-if1 c = search needs
 
-root-requires : tie.Need-root-requires Inv-loop μ-loop
+root-requires : tie.Need-root-requires
 root-requires c κs = search needs
 
-returns : tie.Need-returns Inv-loop μ-loop
+returns : tie.Need-returns
 returns c =
-    let s = c .before .before .before in
-    let sp = facts (s .args .t1) (s .pre .0) .size in
-    let sq = facts (s .args .q) (s .pre .1) .size in
-    let n = length-append (steps (s .args .q)) (steps (s .args .t1)) in
-    let l = on (steps (s .args .q)) (steps (s .args .t1)) in
+    let n = c .before .before in
+    let s = n .before .before in
+    let l = on (steps (s .args .q)) (steps (s .args .p)) in
+    let k = n .before .size .ensures .0 in
+    let j = n .size2 .ensures .0 in
+    let m = length-append (steps (s .args .q)) (steps (s .args .p)) in
     gone (inDepth l) refl (c .root .ensures) (inDepth-deep l (omega arith))
 
-cast-k : tie.Need-cast-k Inv-loop μ-loop
-cast-k c = search needs
+sub-t9 : tie.Need-sub-t9
+sub-t9 c = search needs
 
-cast-n : tie.Need-cast-n Inv-loop μ-loop
-cast-n c = search needs
-
-loop-holds : tie.Need-loop-holds Inv-loop μ-loop
-loop-holds c =
-    let s = c .before .before .before in
-    let f = facts (s .args .q) (s .pre .1) in
-    (search needs, f .full, f .array ∙ ap (slots 6 0) (sym (append-nil (steps (s .args .q)))))
-
-element-copy-out-r : tie.Need-element-copy-out-r Inv-loop μ-loop
-element-copy-out-r c = search needs
-
-add-r : tie.Need-add-r Inv-loop μ-loop
-add-r c = search needs
-
-element-write-r : tie.Need-element-write-r Inv-loop μ-loop
-element-write-r c = search needs
-
-add-i : tie.Need-add-i Inv-loop μ-loop
-add-i c = search needs
-
-loop-less : tie.Need-loop-less Inv-loop μ-loop
-loop-less c = search needs
-
-loop-again : tie.Need-loop-again Inv-loop μ-loop
-loop-again c =
-    let l = c .before .before .loop in
+add-t10 : tie.Need-add-t10
+add-t10 c =
     let s = c .before .before .before .before .before .before in
-    let fp = facts (s .args .t1) (s .pre .0) in
-    let sp = fp .size in
-    let sq = facts (s .args .q) (s .pre .1) .size in (
-      search needs,
-      simp length-set (l .inv .1),
-      slots-copy 6 0 0 (steps (s .args .q)) (steps (s .args .t1)) (l .i) _ _ (l .inv .2) (omega arith) (omega arith) (omega arith) (fp .read (l .i)),
-    )
+    let a = facts (s .args .p) (s .pre .0) .bound in
+    let b = facts (s .args .q) (s .pre .1) .bound in omega arith
 
-add-r-2 : tie.Need-add-r-2 Inv-loop μ-loop
-add-r-2 c = search needs
+mul-t5 : tie.Need-mul-t5
+mul-t5 c = search needs
 
-returns-2 : tie.Need-returns-2 Inv-loop μ-loop
+shr-t12 : tie.Need-shr-t12
+shr-t12 c = search needs
+
+add-t13 : tie.Need-add-t13
+add-t13 c =
+    let n = c .before .before .before .before in
+    let s = n .before .before in
+    let a = facts (s .args .p) (s .pre .0) .bound in
+    let b = facts (s .args .q) (s .pre .1) .bound in
+    let d = div-le-self (s .args .p .key % 256 ^ 6) (2 ^ (8 * n .before .size .result)) in omega arith
+
+returns-2 : tie.Need-returns-2
 returns-2 c =
-    let l = c .before .before .loop in
-    let s = c .before .before .before .before .before .before in
-    let p = s .args .t1 in
-    let q = s .args .q in
-    let sp = facts p (s .pre .0) .size in
-    let sq = facts q (s .pre .1) .size in
-    let n = length-append (steps q) (steps p) in
-    there (inDepth (on (steps q) (steps p))) refl
-    (path-is (on (steps q) (steps p)) (omega arith) (l .inv .2 ∙ ap (λ r. slots 6 0 (steps q ++ r)) (take-all (l .i) (steps p) (omega arith))))
-    (inDepth-fits (on (steps q) (steps p)) (omega arith))
+    let n = c .before .before .before .before in
+    let s = n .before .before in
+    let l = on (steps (s .args .q)) (steps (s .args .p)) in
+    let k = n .before .size .ensures .0 in
+    let j = n .size2 .ensures .0 in
+    let m = length-append (steps (s .args .q)) (steps (s .args .p)) in
+    there (inDepth l) refl (on-path (s .args .p) (s .args .q) (s .pre .0) (s .pre .1) _ k (omega arith)) (inDepth-fits l (omega arith))
 
 pub path-on-spec : {M : Type 1} → statement M
 path-on-spec =
     tie.close
     (tie.spec
-    Inv-loop
-    μ-loop
+    size-requires
+    size-requires-2
     add-if1
     root-requires
     returns
-    cast-k
-    cast-n
-    loop-holds
-    element-copy-out-r
-    add-r
-    element-write-r
-    add-i
-    loop-less
-    loop-again
-    add-r-2
+    sub-t9
+    add-t10
+    mul-t5
+    shr-t12
+    add-t13
     returns-2)

@@ -7,10 +7,13 @@ use Rattle.show.proofs.put_address.Statement.{statement}
 use Rattle.show.proofs.put_address.Tie as tie
 
 abbrev Inv-loop : tie.InvT-loop
-Inv-loop out₀ at p n to₀ i₀ out to i = length out ≡ length out₀
+Inv-loop out₀ at r n to₀ i₀ out to i = length out ≡ length out₀
 
 abbrev μ-loop : tie.MeasureT-loop
-μ-loop out₀ at p n to₀ i₀ out to i = 6 - i
+μ-loop out₀ at r n to₀ i₀ out to i = 6 - i
+
+raw-of-requires : tie.Need-raw-of-requires Inv-loop μ-loop
+raw-of-requires c κs = search needs
 
 cast-n : tie.Need-cast-n Inv-loop μ-loop
 cast-n c = search needs
@@ -60,6 +63,7 @@ put-address-spec =
     (tie.spec
     Inv-loop
     μ-loop
+    raw-of-requires
     cast-n
     put-byte-requires
     same-length

@@ -59,8 +59,8 @@ room c =
     let r = e .before .before .before in
     node-room (r .before .before .loop .inv) (r .record-after .result) (r .record-after .ensures) (e .if1 .left) (fit c)
 
-mul-t15 : tie.Need-mul-t15 Inv-loop μ-loop
-mul-t15 c = let h = room c in search needs
+mul-t16 : tie.Need-mul-t16 Inv-loop μ-loop
+mul-t16 c = let h = room c in search needs
 
 element-set-from-t : tie.Need-element-set-from-t Inv-loop μ-loop
 element-set-from-t c = room c
@@ -98,7 +98,7 @@ read-nodes-spec =
     returns
     node-fits-requires
     returns-2
-    mul-t15
+    mul-t16
     element-set-from-t
     add-t
     add-k
