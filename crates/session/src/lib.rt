@@ -1,14 +1,20 @@
-// The calls of a host over its one session. Each takes the parts that it uses out of the session, calls by value and stores back what came out; a request takes the session whole.
+// The calls of a host over its one session. Each takes the parts that it uses out of the session, calls by value and stores back what came out.
 // What a call promises is the model's step on the whole session. A `via_` function takes the session by value, lends it to the call, and hands it back: for programs.
 ghost use mathlib.Core.Path.{_≡_};
 ghost use Rattle.model.specs.Things as things;
 ghost use Rattle.model.specs.Run as run;
 ghost use Rattle.state.specs.View.{sessionOf, SessionSound, viewRequest};
 ghost use Rattle.state.specs.Calls.{bufferAfter, steppedOf, Steps, Writes};
+use crate::parts::perform;
+use crate::parts::place;
+use enforce::laden;
+use enforce::stays;
 use state::Answer;
 use state::Request;
 use state::Session;
 use state::Stepped;
+
+mod parts;
 
 // A fresh session.
 pub fn start() -> Session
@@ -22,9 +28,11 @@ pub fn request(s: &mut Session, r: Request, image: &[u8]) -> Answer
     requires { ⌜ SessionSound (now s) ⌝ }
     ensures { λ a. ⌜ Steps (now (s .entry)) (run.request (viewRequest r) (now (image .entry))) a (now (s .exit)) ⌝ }
 {
-    let out = enforce::requested(*s, r, image);
-    *s = out.session;
-    out.answer
+    if stays(r) {
+        return perform(s, r);
+    }
+    let l = laden(r, image);
+    place(s, l)
 }
 
 // Make dossier n new with an owner.

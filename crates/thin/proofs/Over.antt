@@ -1,5 +1,5 @@
 -- A function over a `&mut T` and one value of plain data, and such a function called by another, with the reference lent on.
---     Way              what it asks, what it answers and what it leaves, by the T behind the reference and the value.        over      its contract.        Entry, Walks, exits, by-over      how a walk of it starts and ends, and that it meets the contract
+--     Way, Arm         what it asks, what it answers and what it leaves, by the T behind the reference and the value.        over      its contract.        Entry, Walks, exits, by-over      how a walk of it starts and ends, and that it meets the contract
 --     to-over, asked-over      what it is called with by a function that lends its own reference on.        out, home      the reference is lent on, and is back at the value that the callee left.        went, came      both, with the value that goes along
 -- Assumes `Given`.
 use Rattle.thin.proofs.Walk.{_≡_, refl, Option, List, [], _∷_, ℕ, URA, fullShare, Fn, named, Val, vptr, ent, emp, GName, Lft, Share, ftrue, flft, fobs, fbor, WpFn, Heap, Calls, Loops, Tables, Atoms, Given, ‵, raw, _⊛_, ⋆, _$_, _∵_, !, qed, move, drop, split, fsplit, use1, use2}
@@ -21,6 +21,15 @@ pub record Way (T : Data) : Type 2 where
   pub asks : Option (The T × Of J → Type 0)
   pub answers : The T → Of J → Of N
   pub leaves : The T → Of J → The T
+
+-- the same, of values and answers that are given
+pub record Arm (T : Data) (J N : Kind) : Type 1 where
+  pub asks : Option (The T × Of J → Type 0)
+  pub answers : The T → Of J → Of N
+  pub leaves : The T → Of J → The T
+
+abbrev pub way : {T : Data} {J N : Kind} → J .ty-row .exit yes ≡ unchanged → Arm T J N → Way T
+way {J = J} {N = N} still a = record { J = J; N = N; still = still; asks = a .asks; answers = a .answers; leaves = a .leaves }
 
 module _ (T : Data) (w : Way T) where
   abbrev pub over : Deal
