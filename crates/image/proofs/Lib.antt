@@ -1,6 +1,8 @@
 pub mod Less
 pub mod Steps
 pub mod Ascends
+pub mod Halving
+pub mod Keys
 pub mod Newest
 pub mod Stands
 pub mod Behind
