@@ -2,21 +2,26 @@
 use mathlib.Core.Path.{_≡_, refl, sym, ap, _∙_}
 use mathlib.Core.Logic.{_⊎_, inl, inr}
 use mathlib.Core.Bool.{Bool, true, false, not, _&&_, true≢false}
-use mathlib.Core.List.{List, [], _∷_, _++_, map}
-use Prim.Native.Nat.{ℕ, zero, suc, _≤_, _<_}
+use mathlib.Core.List.{List, [], _∷_, _++_, map, List·Memᴰ·head, List·Memᴰ·tail}
+use Prim.Native.Nat.{ℕ, zero, suc, _-_, _≤_, _<_}
 use native.Mathlib.Omega.{arith}
 use lib.Dec.{T, eqb, ltb, not-T, eqb→eq}
 use lib.ListN.{length, take, drop, getD, length-take}
-use borrow.Author.Tests.{eq-eqb}
+use borrow.Author.Tests.{eq-eqb, ltb-true}
 use borrow.Table.Steps.{cases}
-use Rattle.laws.specs.Sorted.{StrictOrder}
+use Rattle.laws.specs.Sorted.{_∈_, StrictOrder}
 use Rattle.laws.specs.Search.{place}
 use Rattle.laws.proofs.Order.{ℕ-order, pair-order}
 use Rattle.laws.proofs.Fill.{list-next, list-end}
+use Rattle.laws.proofs.Last.{in-rest}
 use Rattle.laws.proofs.Search.{Keyed, place-le, place-side, from-place, at-other}
 use Rattle.path.proofs.Structs.{both}
-use Rattle.path.proofs.Moves.{Test, holds, fails, test}
+use Rattle.path.proofs.Moves.{Test, holds, fails, test, is-true}
 use Rattle.image.specs.Columns.{anyOf, Rises, beside, beforePair}
+
+any-there : {A : Type 0} (is : A → Bool) (l : List A) (x : A) → x ∈ l → is x ≡ true → anyOf is l ≡ true
+any-there is (y ∷ l) x (List·Memᴰ·head e) h = rw (ap is (sym e) ∙ h)
+any-there is (y ∷ l) x (List·Memᴰ·tail m) h = cases (is y) (λ e. rw e) (λ e. rw e (any-there is l x m h))
 
 module _ {A : Type 0} {lt : A → A → Bool} (o : StrictOrder lt) where
   never-falls : Keyed (λ x y. not (lt y x)) lt (λ x. x)
@@ -52,6 +57,23 @@ module _ {A : Type 0} {lt : A → A → Bool} (o : StrictOrder lt) where
           cases (is (getD l i d))
           (λ h. sym (begins ∙ ap (anyOf is) next ∙ rw h) ∙ refl)
           (λ h. h ∙ sym (begins ∙ at-other (λ x y. not (lt y x)) lt (λ x. x) never-falls k (anyOf is) other i (getD l i d) _ s next (omega arith) (λ f. true≢false (sym (from (getD l i d) f) ∙ h))))
+
+    -- where none comes after k: the last element is k, or none is
+    pub column-last : (is : A → Bool) → ((x : A) → is x ≡ true → x ≡ k) → ((x : A) → x ≡ k → is x ≡ true) → ((x : A) → x ∈ take n l → T (lt k x) → ⊥) → 0 < n
+        → is (getD l (n - 1) d) ≡ anyOf is (take n l)
+    column-last is to from none h =
+        cases (is (getD l (n - 1) d)) (λ e. e ∙ sym (any-there is (take n l) _ here e))
+        (λ e. e ∙ column-past is to from n (less (λ f. true≢false (sym (from (getD l (n - 1) d) f) ∙ e)) (test (lt (getD l (n - 1) d) k))) (omega arith))
+      where
+        here : getD l (n - 1) d ∈ take n l
+        here = in-rest (getD l (n - 1) d) (n - 1) (take n l) (list-next l n (n - 1) d (omega arith) full)
+
+        less : (getD l (n - 1) d ≡ k → ⊥) → Test (lt (getD l (n - 1) d) k) → n ≡ place (λ x. lt x k) (take n l)
+        less f (holds t) =
+            let m = column-most in
+            let w = ltb-true (n - 1) (place (λ x. lt x k) (take n l)) (column-side (n - 1) (omega arith) ∙ is-true (lt (getD l (n - 1) d) k) t) in
+            omega arith
+        less f (fails u) = absurd (f (o .conn (getD l (n - 1) d) k (not-T (lt (getD l (n - 1) d) k) u) (not-T (lt k (getD l (n - 1) d)) (none (getD l (n - 1) d) here))))
 
 -- ---- two columns side by side
 pub pairs-order : StrictOrder beforePair

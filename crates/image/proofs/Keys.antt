@@ -6,7 +6,7 @@ use mathlib.Core.Option.{none, some}
 use mathlib.Core.List.{List, [], _∷_, _++_, map, List·Memᴰ·head, List·Memᴰ·tail}
 use Prim.Native.Nat.{ℕ, _+_, _≤_, _<_}
 use native.Mathlib.Omega.{arith}
-use lib.Dec.{T, eqb, ltb, not-T}
+use lib.Dec.{T, eqb, ltb, not-T, lt→ltb}
 use lib.ListN.{length, take, set, length-map, length-append, replicate}
 use lib.Seq.{take-at}
 use borrow.Author.Tests.{eq-eqb, eqb-true}
@@ -29,8 +29,8 @@ use Rattle.model.specs.Image.{nodeFits, left, there}
 use Rattle.tables.specs.View.{AtPath}
 use Rattle.tables.specs.Places.{beforeObject, ofAttribute}
 use Rattle.tables.proofs.Asked.{attribute-hit, attribute-miss}
-use Rattle.image.specs.Columns.{anyOf, Rises, among, beforePair, pairAmong, keysOf, nodeFitsAmong}
-use Rattle.image.specs.Rows.{nodeFitsIn}
+use Rattle.image.specs.Columns.{anyOf, Rises, NoneAbove, among, beforePair, pairAmong, keysOf, nodeFitsAmong}
+use Rattle.image.specs.Rows.{NoneAfter, nodeFitsIn}
 
 -- ---- the number of an address: another address has another, and a later one a greater
 number-same : (p q : Address) → eqb (number p) (number q) ≡ same p q
@@ -76,6 +76,12 @@ rises {A} {K} {N} {lt} {ltK} {key} o ltN num P f (x ∷ l) a (cons h s) = cons (
     go n (y ∷ l) b g (List·Memᴰ·head e) =
         not-T (ltN n (num x)) (λ u. falls y (g y (List·Memᴰ·head refl)) (subst T (f y x (b .0) (a .0)) (subst (λ z. T (ltN z (num x))) e u)))
     go n (y ∷ l) b g (List·Memᴰ·tail m) = go n l (b .1) (λ z w. g z (List·Memᴰ·tail w)) m
+
+-- where no row comes after p, no number is above p's
+pub keys-none : {P : Type 0} (p : Address) → T (valid p) → (l : List (Row P)) → All AtPath l → NoneAfter p l → NoneAbove (number p) (keysOf l)
+keys-none p h (r ∷ l) a n x (List·Memᴰ·head e) t =
+    n r (List·Memᴰ·head refl) (subst T (number-before p (r .0) h (a .0)) (lt→ltb (number p) (number (r .0)) (subst (λ z. number p < z) e t)))
+keys-none p h (r ∷ l) a n x (List·Memᴰ·tail m) t = keys-none p h l (a .1) (λ y w. n y (List·Memᴰ·tail w)) x m t
 
 pub keys-rise : {P : Type 0} {lt : Row P → Row P → Bool} → Keyed lt before (λ (r : Row P). r .0) → (l : List (Row P)) → All AtPath l → Sorted lt l → Rises ltb (keysOf l)
 keys-rise o = rises o ltb (λ r. number (r .0)) AtPath (λ x y h g. number-before (x .0) (y .0) h g)

@@ -3,6 +3,7 @@ pub mod Steps
 pub mod Ascends
 pub mod Halving
 pub mod Keys
+pub mod Lent
 pub mod Newest
 pub mod Stands
 pub mod Behind

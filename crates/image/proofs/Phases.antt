@@ -1,17 +1,20 @@
 -- One record more of each kind: it breaks the image, or the table with its row holds what is read. Assumes nothing.
-use mathlib.Core.Path.{_≡_, refl, sym, ap, subst, _∙_}
+use mathlib.Core.Path.{_≡_, refl, sym, ap, ap₂, subst, _∙_}
 use mathlib.Core.Bool.{Bool, true, false, not, _||_}
 use mathlib.Core.List.{List, [], _∷_, _++_}
 use Prim.Native.Nat.{ℕ, suc, _+_, _-_, _<_}
 use native.Mathlib.Omega.{arith}
 use lib.Dec.{T, eqb, ltb, leb, ltb→lt, lt→ltb}
-use lib.ListN.{length, set, getD, length-append}
+use lib.ListN.{length, set, getD, length-map, length-append}
 use borrow.Author.Tests.{leb-false, lt-leb, eqb-true, eqb-false}
 use borrow.Table.Steps.{cases}
+use Rattle.laws.specs.Slots.{slots}
 use Rattle.laws.specs.Sorted.{nil}
+use Rattle.laws.proofs.Fill.{slots-next}
 use Rattle.path.specs.declared.Path.{Path}
 use Rattle.path.specs.Address.{Address, parent}
-use Rattle.path.specs.View.{steps, PathSound}
+use Rattle.path.specs.Packed.{number}
+use Rattle.path.specs.View.{steps, PathSound, keyOf}
 use Rattle.path.proofs.Structs.{view-path, no}
 use Rattle.path.proofs.Moves.{is-false}
 use Rattle.model.specs.Things as things
@@ -31,11 +34,13 @@ use Rattle.parse.specs.declared.Record as parsed
 use Rattle.parse.specs.View.{recordOf}
 use Rattle.image.specs.Records.{recordAt, Upto, Breaks}
 use Rattle.image.specs.Rows.{NoneAfter, nodeFitsIn, attributeFitsIn, attributeTests, attributeFrom, NotOf, NodesUpto, NodesDone, AttributesUpto, AttributesDone, PermissionsUpto}
+use Rattle.image.specs.Columns.{keysOf}
+use Rattle.image.proofs.Keys.{keyOfRow}
 use Rattle.image.proofs.Steps.{breaks-none, breaks-fit, upto-more, upto-fits}
 use Rattle.image.proofs.Stands.{IsNode, is-node, IsAttribute, is-attribute, IsPermission, is-permission, is-none, path-sound, any-path-sound, not-after}
 use Rattle.image.proofs.Behind.{node-behind, attribute-behind, attribute-path-behind}
 use Rattle.image.proofs.Tests.{attribute-fit}
-use Rattle.image.proofs.Stored.{node-stored, attribute-stored, permission-stored}
+use Rattle.image.proofs.Stored.{map-one, node-stored, attribute-stored, permission-stored}
 use Rattle.image.proofs.Lookups.{objectIn, node-there, object-there}
 
 one-more : (k : ℕ) → suc k ≡ k + 1
@@ -111,9 +116,21 @@ module _ {b : List ℕ} {n k : ℕ} {t : Nodes} (u : NodesUpto b n k t) (s : par
     stored-node : withNode ≡ nodesOf (viewNodes t ++ (node .row ∷ []))
     stored-node = node-stored t (u .sound) node-room (node .row) (nodeRow (s .path) (s .owner)) (λ i. nodeRow (node .path i) (node .owner i))
 
+    seen-node : viewNodes withNode ≡ viewNodes t ++ (node .row ∷ [])
+    seen-node = ap viewNodes stored-node ∙ view-nodes (viewNodes t ++ (node .row ∷ []))
+
+    -- the column with the node's number, stored where its row is
+    pub keys-more : {keys : List ℕ} {x : ℕ} → keys ≡ slots 64 0 (keysOf (viewNodes t)) → x ≡ keyOf (s .path) → set keys (t .count) x ≡ slots 64 0 (keysOf (viewNodes withNode))
+    keys-more q f =
+        let c = nodes-count t (u .sound) ∙ sym (length-map (viewNodes t) keyOfRow) in
+        let m = node-room in
+        ap₂ (λ l y. set l (t .count) y) q (f ∙ ap keyOf (node .path))
+        ∙ slots-next 64 0 (keysOf (viewNodes t)) (number (node .row .0)) (t .count) (omega arith) (sym c)
+        ∙ ap (slots 64 0) (map-one keyOfRow (viewNodes t) (node .row) ∙ ap keysOf (sym seen-node))
+
     pub nodes-more : k < n → NodesUpto b n (k + 1) withNode
     nodes-more c =
-        let v = ap viewNodes stored-node ∙ view-nodes (viewNodes t ++ (node .row ∷ [])) in
+        let v = seen-node in
         record {
           inside = omega arith;
           sound = record { model = viewNodes t ++ (node .row ∷ []); same = stored-node; fits = upto-fits b (suc k) _ more-nodes .nodes };

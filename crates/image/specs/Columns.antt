@@ -2,11 +2,11 @@
 use mathlib.Core.Path.{_≡_, refl}
 use mathlib.Core.Bool.{Bool, true, false, not, _&&_, _||_}
 use mathlib.Core.List.{List, [], _∷_, map}
-use Prim.Native.Nat.{ℕ}
+use Prim.Native.Nat.{ℕ, _<_}
 use lib.Dec.{eqb, ltb}
 use lib.ListN.{length}
 use Rattle.laws.specs.Slots.{slots}
-use Rattle.laws.specs.Sorted.{Sorted}
+use Rattle.laws.specs.Sorted.{_∈_, Sorted}
 use Rattle.laws.specs.Order.{ltPair}
 use Rattle.path.specs.Address.{Address, parent}
 use Rattle.path.specs.Packed.{number}
@@ -26,6 +26,10 @@ Rises lt l = Sorted (λ x y. not (lt y x)) l
 -- whether a number is in a column
 abbrev pub among : ℕ → List ℕ → Bool
 among k l = anyOf (λ x. eqb x k) l
+
+-- no number of the column is above k
+abbrev pub NoneAbove : ℕ → List ℕ → Type 0
+NoneAbove k l = (x : ℕ) → x ∈ l → k < x → ⊥
 
 -- two columns side by side, their order, and whether two numbers stand side by side in them
 abbrev pub beside : List ℕ → List ℕ → List (ℕ × ℕ)
