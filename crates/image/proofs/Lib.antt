@@ -9,6 +9,7 @@ pub mod Stands
 pub mod Behind
 pub mod Tests
 pub mod Stored
+pub mod Clashes
 pub mod Lookups
 pub mod Phases
 pub mod Whole
