@@ -2,17 +2,14 @@
 use mathlib.Core.Path.{_≡_, refl, sym, ap, ap₂, subst, _∙_}
 use mathlib.Core.Logic.{_⊎_, inl, inr}
 use mathlib.Core.Bool.{Bool, true, false, not, _&&_, _||_}
-use mathlib.Core.Option.{none, some}
-use mathlib.Core.List.{List, [], _∷_, _++_, map, List·Memᴰ·head, List·Memᴰ·tail}
-use Prim.Native.Nat.{ℕ, _+_, _≤_, _<_}
-use native.Mathlib.Omega.{arith}
+use mathlib.Core.List.{List, [], _∷_, map, List·Memᴰ·head, List·Memᴰ·tail}
+use Prim.Native.Nat.{ℕ, _<_}
 use lib.Dec.{T, eqb, ltb, not-T, lt→ltb}
-use lib.ListN.{length, take, set, length-map, length-append, replicate}
-use lib.Seq.{take-at}
+use lib.ListN.{length-map}
 use borrow.Author.Tests.{eq-eqb, eqb-true}
 use borrow.Table.Steps.{cases}
-use Rattle.laws.specs.Slots.{pick, slots, All}
-use Rattle.laws.specs.Sorted.{_∈_, Sorted, nil, cons, push, move}
+use Rattle.laws.specs.Slots.{All}
+use Rattle.laws.specs.Sorted.{_∈_, Sorted, nil, cons}
 use Rattle.laws.specs.Order.{lex}
 use Rattle.laws.proofs.Search.{Keyed}
 use Rattle.path.specs.declared.Path.{Path}
@@ -24,7 +21,7 @@ use Rattle.path.proofs.Moves.{is-true, is-false}
 use Rattle.path.proofs.Laws.{same-self, same-eq}
 use Rattle.path.proofs.Number.{key-before}
 use Rattle.model.specs.Things.{Row, Attribute}
-use Rattle.model.specs.Moves.{at, head, ownerIn, attributeIn}
+use Rattle.model.specs.Moves.{ownerIn, attributeIn}
 use Rattle.model.specs.Image.{nodeFits, left, there}
 use Rattle.tables.specs.View.{AtPath}
 use Rattle.tables.specs.Places.{beforeObject, ofAttribute}

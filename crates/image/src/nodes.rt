@@ -7,15 +7,12 @@ ghost use Rattle.laws.specs.Slots.{pick};
 ghost use Rattle.path.specs.Address.{last};
 ghost use Rattle.path.specs.Packed.{number};
 ghost use Rattle.path.specs.View.{steps, pathOf, PathSound};
-ghost use Rattle.model.specs.Moves.{ownerIn};
 ghost use Rattle.model.specs.Image as images;
-ghost use Rattle.tables.specs.View.{viewNodes, NodesSound};
 ghost use Rattle.image.specs.Records.{Breaks};
 ghost use Rattle.image.specs.Rows.{NodesDone};
 ghost use Rattle.image.specs.Columns.{Rises, NoneAbove, among, nodeFitsAmong};
 use crate::columns::is_among;
 use crate::records::record_after;
-use lookups::owner_in;
 use path::Path;
 use path::child_of;
 use path::key;
@@ -24,7 +21,6 @@ use path::parent_of;
 use path::size;
 use tables::Node;
 use tables::Nodes;
-use tables::Owner;
 use tables::no_nodes;
 
 // ok: `next` records are good nodes and the table holds them; record `next` is no node, or there is none. Else record `next` is bad. Counted from 0.
@@ -32,16 +28,6 @@ pub struct NodesRead {
     pub ok: bool,
     pub next: usize,
     pub table: Nodes,
-}
-
-pub fn node_there(t: Nodes, p: Path) -> bool
-    requires { ⌜ NodesSound t × PathSound p ⌝ }
-    ensures { λ r. ⌜ r ≡ images.there (ownerIn (steps p) (viewNodes t)) ⌝ }
-{
-    match owner_in(t, p) {
-        Owner::Nobody => false,
-        Owner::User(_) => true,
-    }
 }
 
 // Whether k is among the first n keys, none of which is above it: then it is the last one.

@@ -3,12 +3,11 @@ use borrow.Author.Needs.{needs}
 use borrow.Author.Tests.{ltb-true, ltb-false}
 use mathlib.Core.Path.{_≡_, sym, ap, _∙_}
 use mathlib.Core.Bool.{_&&_, _||_}
-use Prim.Native.Nat.{ℕ, _+_, _-_, _/_, _≤_, _<_}
+use Prim.Native.Nat.{ℕ, _+_, _-_, _/_, _≤_}
 use native.Mathlib.Omega.{arith}
 use lib.Dec.{eqb, ltb}
 use lib.ListN.{length, take, getD}
 use Rattle.laws.specs.Search.{place}
-use Rattle.laws.specs.Order.{ltPair}
 use Rattle.tables.proofs.Compare.{lexed-or}
 use Rattle.image.specs.Columns.{beside, beforePair}
 use Rattle.image.proofs.Halving.{column-most, column-side, column-past, column-here, pairs-order, pair-to, pair-from, beside-at, beside-long}

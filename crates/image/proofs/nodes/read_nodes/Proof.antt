@@ -5,7 +5,6 @@ use mathlib.Core.Path.{_≡_, sym, ap, _∙_}
 use mathlib.Core.Bool.{true}
 use Prim.Native.Nat.{_<_, _-_}
 use native.Mathlib.Omega.{arith}
-use lib.ListN.{length, length-set}
 use Rattle.laws.specs.Slots.{slots}
 use Rattle.path.specs.View.{steps}
 use Rattle.tables.specs.View.{viewNodes}
