@@ -19,7 +19,7 @@ use Rattle.model.specs.Image.{there}
 use Rattle.tables.specs.declared.Nodes.{Nodes}
 use Rattle.tables.specs.declared.Attributes.{Attributes}
 use Rattle.tables.specs.View.{AtPath, Fits, viewNodes, nodesOf, NodesSound, viewAttributes, attributesOf, AttributesSound}
-use Rattle.tables.proofs.Rows.{view-nodes, nodes-held, view-attributes, attributes-held}
+use Rattle.tables.proofs.Rows.{view-nodes, nodes-held, view-attributes}
 use Rattle.tables.proofs.Tables.{nodes-count, attributes-count}
 use Rattle.tables.proofs.Places.{nodes-searched, attributes-searched}
 use Rattle.image.specs.declared.columns.Objects.{Objects}
@@ -74,17 +74,6 @@ module _ (t : Attributes) (h : AttributesSound t) (o : Objects) (e : o ≡ objec
   objects-column =
       ap (λ (x : Objects). take (t .count) (beside (x .keys) (x .names))) e
       ∙ beside-rows keyOfRow nameOfRow (viewAttributes t) _ _ (t .count) (attributes-count t h)
-
-  few : length (viewAttributes t) ≤ 256
-  few = let r = held-room _ _ _ _ _ _ (attributes-held t h) in let m = attributes-count t h in omega arith
-
-  pub tops-size : length (o .keys) ≡ 256
-  tops-size =
-      let r = few in let m = length-map (viewAttributes t) keyOfRow in ap (λ (x : Objects). length (x .keys)) e ∙ slots-length 256 0 (keysOf (viewAttributes t)) (omega arith)
-
-  pub names-size : length (o .names) ≡ 256
-  names-size =
-      let r = few in let m = length-map (viewAttributes t) nameOfRow in ap (λ (x : Objects). length (x .names)) e ∙ slots-length 256 0 (namesOf (viewAttributes t)) (omega arith)
 
   pub tops-long : t .count ≤ length (o .keys)
   tops-long = column-long 256 (keysOf (viewAttributes t)) (o .keys) (t .count) (ap (λ (x : Objects). x .keys) e) (attributes-count t h ∙ sym (length-map (viewAttributes t) keyOfRow))

@@ -32,11 +32,11 @@ pub struct PermissionsRead {
 }
 
 // Whether the object is there: the node for name 0, by the first m keys, else the attribute, by the first h of the other two columns.
-fn object_there(
+fn object_there<'a>(
     keys: &[u64],
     m: usize,
-    tops: &[u64],
-    names: &[u16],
+    tops: &'a [u64],
+    names: &'a [u16],
     h: usize,
     p: Path,
     name: u16,
@@ -77,22 +77,14 @@ pub fn read_permissions(
 {
     let keys = keys_of(nodes);
     let objects = objects_of(attributes);
-    let tops = objects.keys;
-    let names = objects.names;
     let mut t = no_permissions();
     let mut k = from;
     while k < n {
         let r = record_after(image, k);
         let c = t.count;
-        let on = object_there(
-            &keys,
-            nodes.count,
-            &tops,
-            &names,
-            attributes.count,
-            r.path,
-            r.name,
-        );
+        let m = nodes.count;
+        let h = attributes.count;
+        let on = object_there(&keys, m, &objects.keys, &objects.names, h, r.path, r.name);
         let mut clashing = false;
         let mut j = c;
         while 0 < j {
