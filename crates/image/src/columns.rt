@@ -84,9 +84,9 @@ pub fn objects_of(t: Attributes) -> Objects
         keys: [0; 256],
         names: [0; 256],
     };
-    let n = t.count;
+    let count = t.count;
     let mut i: usize = 0;
-    while i < n {
+    while i < count {
         let a = t.rows[i];
         out.keys[i] = key(a.path);
         out.names[i] = a.name;

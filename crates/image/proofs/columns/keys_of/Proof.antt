@@ -1,7 +1,7 @@
 -- `image::columns::keys_of` meets its contract: each row's number is stored at the row's place. Assumes nothing.
 use borrow.Author.Needs.{needs}
 use mathlib.Core.Path.{refl, _∙_}
-use Prim.Native.Nat.{_+_, _-_, _≤_}
+use Prim.Native.Nat.{_+_, _-_, _≤_, _<_}
 use native.Mathlib.Omega.{arith}
 use lib.ListN.{drop, getD}
 use Rattle.laws.specs.Slots.{slots}
@@ -50,7 +50,7 @@ loop-again c =
     let s = i .before .before in
     let h = nodes-held (s .args .t1) (s .pre) in
     let a = getD (s .args .t1 .rows) (l .i) noNode in
-    let k = i .loop-test .taken in (
+    let k : l .i < s .args .t1 .count = omega arith in (
       search needs,
       search needs,
       turn alone keyOfRow (λ l. l) 64 _ (l .keys) (l .i) (l .inv .2) (viewNode a) (drop (l .i + 1) (viewNodes (s .args .t1))) (viewNode a) _ (omega arith)
@@ -60,7 +60,8 @@ loop-again c =
 returns : tie.Need-returns Inv-loop μ-loop
 returns c =
     let l = c .before .loop in
-    done alone keyOfRow (λ l. l) 64 _ (l .keys) (l .i) (l .inv .2) (row-end viewNode _ _ (l .i) (c .loop-test .left)) refl
+    let t = c .before .before .args .t1 in
+    done alone keyOfRow (λ l. l) 64 _ (l .keys) (l .i) (l .inv .2) (row-end viewNode (t .rows) (t .count) (l .i) (omega arith)) refl
 
 pub keys-of-spec : {M : Type 1} → statement M
 keys-of-spec =

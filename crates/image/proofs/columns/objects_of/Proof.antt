@@ -1,7 +1,7 @@
 -- `image::columns::objects_of` meets its contract: each row's number and name are stored at the row's place. Assumes nothing.
 use borrow.Author.Needs.{needs}
 use mathlib.Core.Path.{refl, _∙_}
-use Prim.Native.Nat.{_+_, _-_, _≤_}
+use Prim.Native.Nat.{_+_, _-_, _≤_, _<_}
 use native.Mathlib.Omega.{arith}
 use lib.ListN.{drop, getD}
 use Rattle.laws.specs.Slots.{slots}
@@ -14,11 +14,11 @@ use Rattle.image.proofs.columns.objects_of.Statement.{statement}
 use Rattle.image.proofs.columns.objects_of.Tie as tie
 
 abbrev Inv-loop : tie.InvT-loop
-Inv-loop t out₀ n i₀ out i = (i ≤ n) × (n ≤ 256) × Fills alone keyOfRow (λ l. l) 256 (slots 256 0 (keysOf (viewAttributes t))) (out .keys) i (drop i (viewAttributes t))
+Inv-loop t out₀ count i₀ out i = (i ≤ count) × (count ≤ 256) × Fills alone keyOfRow (λ l. l) 256 (slots 256 0 (keysOf (viewAttributes t))) (out .keys) i (drop i (viewAttributes t))
     × Fills alone nameOfRow (λ l. l) 256 (slots 256 0 (namesOf (viewAttributes t))) (out .names) i (drop i (viewAttributes t))
 
 abbrev μ-loop : tie.MeasureT-loop
-μ-loop t out₀ n i₀ out i = n - i
+μ-loop t out₀ count i₀ out i = count - i
 
 loop-holds : tie.Need-loop-holds Inv-loop μ-loop
 loop-holds c = (search needs, held-room _ _ _ _ _ _ (attributes-held (c .args .t1) (c .pre)), begin alone keyOfRow (λ l. l) 256 0 _ (viewAttributes (c .args .t1)) refl, begin alone nameOfRow (λ l. l) 256 0 _ (viewAttributes (c .args .t1)) refl)
@@ -57,7 +57,7 @@ loop-again c =
     let s = i .before .before in
     let h = attributes-held (s .args .t1) (s .pre) in
     let a = getD (s .args .t1 .rows) (l .i) noAttribute in
-    let k = i .loop-test .taken in (
+    let k : l .i < s .args .t1 .count = omega arith in (
       search needs,
       search needs,
       turn alone keyOfRow (λ l. l) 256 _ (l .out .keys) (l .i) (l .inv .2) (viewAttribute a) (drop (l .i + 1) (viewAttributes (s .args .t1))) (viewAttribute a) _ (omega arith)
@@ -69,7 +69,8 @@ loop-again c =
 returns : tie.Need-returns Inv-loop μ-loop
 returns c =
     let l = c .before .loop in
-    let e = row-end viewAttribute _ _ (l .i) (c .loop-test .left) in
+    let t = c .before .before .args .t1 in
+    let e = row-end viewAttribute (t .rows) (t .count) (l .i) (omega arith) in
     let a = done alone keyOfRow (λ l. l) 256 _ (l .out .keys) (l .i) (l .inv .2) e refl in
     let b = done alone nameOfRow (λ l. l) 256 _ (l .out .names) (l .i) (l .inv .3) e refl in
     λ i. record { keys = a i; names = b i }
