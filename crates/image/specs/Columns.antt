@@ -31,25 +31,30 @@ among k l = anyOf (λ x. eqb x k) l
 abbrev pub NoneAbove : ℕ → List ℕ → Type 0
 NoneAbove k l = (x : ℕ) → x ∈ l → k < x → ⊥
 
--- two columns side by side, their order, and whether two numbers stand side by side in them
+-- two columns side by side
 abbrev pub beside : List ℕ → List ℕ → List (ℕ × ℕ)
 beside [] m = []
 beside (x ∷ l) [] = []
 beside (x ∷ l) (y ∷ m) = (x, y) ∷ beside l m
 
+-- by the first number, then by the one beside it
 abbrev pub beforePair : ℕ × ℕ → ℕ × ℕ → Bool
 beforePair = ltPair ltb ltb
 
+-- whether two numbers stand side by side in two columns
 abbrev pub pairAmong : ℕ × ℕ → List (ℕ × ℕ) → Bool
 pairAmong o l = anyOf (λ x. eqb (x .0) (o .0) && eqb (x .1) (o .1)) l
 
 -- ---- the columns of a table's rows
+-- the numbers of the rows' paths
 abbrev pub keysOf : {P : Type 0} → List (Row P) → List ℕ
 keysOf l = map (λ r. number (r .0)) l
 
+-- the names of attributes
 abbrev pub namesOf : List (Row Attribute) → List ℕ
 namesOf l = map (λ r. r .1 .name) l
 
+-- the struct that holds both of attributes
 abbrev pub objectsOf : List (Row Attribute) → Objects
 objectsOf l = record { keys = slots 256 0 (keysOf l); names = slots 256 0 (namesOf l) }
 
