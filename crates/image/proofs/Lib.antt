@@ -1,11 +1,15 @@
 pub mod Less
 pub mod Steps
 pub mod Ascends
+pub mod Halving
+pub mod Keys
+pub mod Lent
 pub mod Newest
 pub mod Stands
 pub mod Behind
 pub mod Tests
 pub mod Stored
+pub mod Clashes
 pub mod Lookups
 pub mod Phases
 pub mod Whole

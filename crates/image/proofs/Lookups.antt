@@ -1,9 +1,7 @@
--- What a lookup answers says whether the object is there. Assumes nothing.
-use mathlib.Core.Path.{_≡_, refl, sym}
+-- Whether an object is there, by its rows and as the rules have it. Assumes nothing.
+use mathlib.Core.Path.{_≡_, sym}
 use mathlib.Core.Bool.{Bool, true, false}
-use mathlib.Core.Option.{Option, none, some}
 use Prim.Native.Nat.{ℕ}
-use native.Mathlib.Omega.{arith}
 use lib.Dec.{eqb}
 use Rattle.laws.specs.Slots.{pick}
 use Rattle.path.specs.Address.{Address}
@@ -11,26 +9,6 @@ use Rattle.model.specs.Things as things
 use Rattle.model.specs.Moves.{ownerIn, attributeIn, nodeAt, attributeObject, objectAt}
 use Rattle.model.specs.Image.{there}
 use Rattle.roundtrip.proofs.Checks.{there-map}
-use Rattle.tables.specs.declared.Value.{Value}
-use Rattle.tables.specs.declared.Owner.the-variants.{Nobody, User}
-use Rattle.tables.specs.declared.Found.the-variants.{Absent, Present}
-use Rattle.tables.specs.View.{ownerOf, foundOf}
-
-pub nobody-there : (o : Option ℕ) → Nobody ≡ ownerOf o → false ≡ there o
-nobody-there none e = refl
-nobody-there (some u) e = let z : _≡_ {A = ℕ} 0 1 = cc in absurd (omega arith)
-
-pub user-there : (o : Option ℕ) {u : ℕ} → User u ≡ ownerOf o → true ≡ there o
-user-there none e = let z : _≡_ {A = ℕ} 0 1 = cc in absurd (omega arith)
-user-there (some v) e = refl
-
-pub absent-there : (o : Option things.Attribute) → Absent ≡ foundOf o → false ≡ there o
-absent-there none e = refl
-absent-there (some a) e = let z : _≡_ {A = ℕ} 0 1 = cc in absurd (omega arith)
-
-pub present-there : (o : Option things.Attribute) {u : ℕ} {v : Value} → Present u v ≡ foundOf o → true ≡ there o
-present-there none e = let z : _≡_ {A = ℕ} 0 1 = cc in absurd (omega arith)
-present-there (some a) e = refl
 
 -- an object, the node for name 0, else the attribute
 abbrev pub objectIn : Address → ℕ → things.Dossier → Bool

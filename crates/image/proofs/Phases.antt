@@ -1,17 +1,20 @@
 -- One record more of each kind: it breaks the image, or the table with its row holds what is read. Assumes nothing.
-use mathlib.Core.Path.{_≡_, refl, sym, ap, subst, _∙_}
+use mathlib.Core.Path.{_≡_, refl, sym, ap, ap₂, subst, _∙_}
 use mathlib.Core.Bool.{Bool, true, false, not, _||_}
 use mathlib.Core.List.{List, [], _∷_, _++_}
 use Prim.Native.Nat.{ℕ, suc, _+_, _-_, _<_}
 use native.Mathlib.Omega.{arith}
 use lib.Dec.{T, eqb, ltb, leb, ltb→lt, lt→ltb}
-use lib.ListN.{length, set, getD, length-append}
+use lib.ListN.{length, set, getD, length-map, length-append}
 use borrow.Author.Tests.{leb-false, lt-leb, eqb-true, eqb-false}
 use borrow.Table.Steps.{cases}
-use Rattle.laws.specs.Sorted.{nil}
+use Rattle.laws.specs.Slots.{slots}
+use Rattle.laws.specs.Sorted.{_∈_, nil}
+use Rattle.laws.proofs.Fill.{slots-next}
 use Rattle.path.specs.declared.Path.{Path}
 use Rattle.path.specs.Address.{Address, parent}
-use Rattle.path.specs.View.{steps, PathSound}
+use Rattle.path.specs.Packed.{number}
+use Rattle.path.specs.View.{steps, PathSound, keyOf}
 use Rattle.path.proofs.Structs.{view-path, no}
 use Rattle.path.proofs.Moves.{is-false}
 use Rattle.model.specs.Things as things
@@ -24,18 +27,20 @@ use Rattle.tables.specs.declared.Nodes.{Nodes}
 use Rattle.tables.specs.declared.Attributes.{Attributes}
 use Rattle.tables.specs.declared.Permissions.{Permissions}
 use Rattle.tables.specs.View.{nodeRow, viewNodes, nodesWith, nodesOf, viewAttributes, attributesWith, attributesOf, noAttribute, viewPermissions, permissionsWith, permissionsOf, viewGrant}
-use Rattle.tables.specs.Places.{Object, beforeObject, ofAttribute}
+use Rattle.tables.specs.Places.{Object, beforeObject, ofAttribute, ofPermission}
 use Rattle.tables.proofs.Rows.{view-nodes, view-attributes, view-permissions}
 use Rattle.tables.proofs.Tables.{nodes-none, attributes-none, nodes-count, attributes-count, permissions-count}
 use Rattle.parse.specs.declared.Record as parsed
 use Rattle.parse.specs.View.{recordOf}
 use Rattle.image.specs.Records.{recordAt, Upto, Breaks}
-use Rattle.image.specs.Rows.{NoneAfter, nodeFitsIn, attributeFitsIn, attributeTests, attributeFrom, NotOf, NodesUpto, NodesDone, AttributesUpto, AttributesDone, PermissionsUpto}
+use Rattle.image.specs.Rows.{NoneAfter, nodeFitsIn, attributeFitsIn, attributeTests, attributeFrom, permissionFrom, NotOf, NodesUpto, NodesDone, AttributesUpto, AttributesDone, PermissionsUpto}
+use Rattle.image.specs.Columns.{keysOf}
+use Rattle.image.proofs.Keys.{keyOfRow}
 use Rattle.image.proofs.Steps.{breaks-none, breaks-fit, upto-more, upto-fits}
 use Rattle.image.proofs.Stands.{IsNode, is-node, IsAttribute, is-attribute, IsPermission, is-permission, is-none, path-sound, any-path-sound, not-after}
-use Rattle.image.proofs.Behind.{node-behind, attribute-behind, attribute-path-behind}
+use Rattle.image.proofs.Behind.{node-behind, attribute-behind, attribute-path-behind, permission-behind}
 use Rattle.image.proofs.Tests.{attribute-fit}
-use Rattle.image.proofs.Stored.{node-stored, attribute-stored, permission-stored}
+use Rattle.image.proofs.Stored.{map-one, node-stored, attribute-stored, permission-stored}
 use Rattle.image.proofs.Lookups.{objectIn, node-there, object-there}
 
 one-more : (k : ℕ) → suc k ≡ k + 1
@@ -70,6 +75,10 @@ four true false true true e = no e
 four true false false d e = no e
 four true true c d e = no e
 four false b c d e = no e
+
+-- for a record of another kind the answer is the same, whatever the other tests say
+pub third : (k : ℕ) (m : Bool) {o o′ x x′ : Bool} → o ≡ o′ → (k ≡ 3 → x ≡ x′) → (not (eqb k 3) || (m || (not o || x))) ≡ (not (eqb k 3) || (m || (not o′ || x′)))
+third k m e f = cases (eqb k 3) (λ h. let g = f (eqb-true k 3 h) in λ i. not (eqb k 3) || (m || (not (e i) || g i))) (λ h. rw h)
 
 -- ---- nodes
 module _ {b : List ℕ} {n k : ℕ} {t : Nodes} (u : NodesUpto b n k t) (s : parsed.Record) (e : s ≡ recordOf (recordAt k b)) (h : s .kind ≡ 1) where
@@ -111,9 +120,21 @@ module _ {b : List ℕ} {n k : ℕ} {t : Nodes} (u : NodesUpto b n k t) (s : par
     stored-node : withNode ≡ nodesOf (viewNodes t ++ (node .row ∷ []))
     stored-node = node-stored t (u .sound) node-room (node .row) (nodeRow (s .path) (s .owner)) (λ i. nodeRow (node .path i) (node .owner i))
 
+    seen-node : viewNodes withNode ≡ viewNodes t ++ (node .row ∷ [])
+    seen-node = ap viewNodes stored-node ∙ view-nodes (viewNodes t ++ (node .row ∷ []))
+
+    -- the column with the node's number, stored where its row is
+    pub keys-more : {keys : List ℕ} {x : ℕ} → keys ≡ slots 64 0 (keysOf (viewNodes t)) → x ≡ keyOf (s .path) → set keys (t .count) x ≡ slots 64 0 (keysOf (viewNodes withNode))
+    keys-more q f =
+        let c = nodes-count t (u .sound) ∙ sym (length-map (viewNodes t) keyOfRow) in
+        let m = node-room in
+        ap₂ (λ l y. set l (t .count) y) q (f ∙ ap keyOf (node .path))
+        ∙ slots-next 64 0 (keysOf (viewNodes t)) (number (node .row .0)) (t .count) (omega arith) (sym c)
+        ∙ ap (slots 64 0) (map-one keyOfRow (viewNodes t) (node .row) ∙ ap keysOf (sym seen-node))
+
     pub nodes-more : k < n → NodesUpto b n (k + 1) withNode
     nodes-more c =
-        let v = ap viewNodes stored-node ∙ view-nodes (viewNodes t ++ (node .row ∷ [])) in
+        let v = seen-node in
         record {
           inside = omega arith;
           sound = record { model = viewNodes t ++ (node .row ∷ []); same = stored-node; fits = upto-fits b (suc k) _ more-nodes .nodes };
@@ -225,6 +246,10 @@ module _ {b : List ℕ} {n k : ℕ} {nodes : Nodes} {attributes : Attributes} {t
     permission-at : _≡_ {A = Object} (steps (s .path), s .name) (permission .row .0, permission .row .1 .0)
     permission-at = let p = ap steps (permission .path) ∙ view-path (permission .row .0) in let m = permission .name in λ i. (p i, m i)
 
+    -- of the rows that are there none is of an object that comes after the record's
+    pub permission-none-after : (x : Row (ℕ × things.Permission)) → x ∈ viewPermissions t → T (beforeObject (steps (s .path), s .name) (ofPermission x)) → ⊥
+    permission-none-after x m = subst (λ (y : Object). T (beforeObject y (ofPermission x)) → ⊥) (sym permission-at) (permission-behind b k all (u .upto) (permission .row) (permission .found) x m)
+
     object-test : objectIn (steps (s .path)) (s .name) all ≡ there (objectAt (permission .row .0) (permission .row .1 .0) all)
     object-test = ap (λ (y : Object). objectIn (y .0) (y .1) all) permission-at ∙ object-there (permission .row .0) (permission .row .1 .0) all
 
@@ -255,7 +280,7 @@ module _ {b : List ℕ} {n k : ℕ} {nodes : Nodes} {attributes : Attributes} {t
     over-breaks c f = breaks c (λ w. over-not (length (viewPermissions t)) (clashAny (permission .row .1 .1) (permissionsIn (permission .row .0) (permission .row .1 .0) (viewPermissions t))) (sym over-test ∙ f) (parts w .1) (parts w .2))
 
     abbrev pub withPermission : Permissions
-    withPermission = permissionsWith (set (t .rows) (t .count) (record { path = s .path; name = s .name; grant = s .grant })) (t .count + 1)
+    withPermission = permissionsWith (set (t .rows) (t .count) (permissionFrom s)) (t .count + 1)
 
     module _ (f : objectIn (steps (s .path)) (s .name) all ≡ true) (g : over ≡ false) where
       fit : T (fits all (permissionRecord (permission .row)))
@@ -276,7 +301,7 @@ module _ {b : List ℕ} {n k : ℕ} {nodes : Nodes} {attributes : Attributes} {t
 
       stored-permission : withPermission ≡ permissionsOf (viewPermissions t ++ (permission .row ∷ []))
       stored-permission =
-          permission-stored t (u .sound) room-behind (permission .row) (record { path = s .path; name = s .name; grant = s .grant })
+          permission-stored t (u .sound) room-behind (permission .row) (permissionFrom s)
           (λ i. record { path = permission .path i; name = permission .name i; grant = permission .grant i })
 
       one-behind : k < n → PermissionsUpto b n (k + 1) nodes attributes withPermission
@@ -319,5 +344,5 @@ module _ {b : List ℕ} {n k : ℕ} {nodes : Nodes} {attributes : Attributes} {t
     pub permission-room : t .count < 128
     permission-room = let w = parts-of in room-behind (w .0) (w .1) (w .2)
 
-    pub permissions-more : k < n → PermissionsUpto b n (k + 1) nodes attributes (permissionsWith (set (t .rows) (t .count) (record { path = s .path; name = s .name; grant = s .grant })) (t .count + 1))
+    pub permissions-more : k < n → PermissionsUpto b n (k + 1) nodes attributes (permissionsWith (set (t .rows) (t .count) (permissionFrom s)) (t .count + 1))
     permissions-more c = let w = parts-of in one-behind (w .0) (w .1) (w .2) c

@@ -17,7 +17,7 @@ use Rattle.tables.specs.declared.Permissions.{Permissions}
 use Rattle.tables.specs.View.{nodeOf, attributeOf, permissionOf, blankNode, blankAttribute, blankPermission, viewNodes, nodesWith, nodesOf, NodesSound, viewAttributes, attributesWith, attributesOf, AttributesSound, viewPermissions, permissionsWith, permissionsOf, PermissionsSound}
 use Rattle.tables.proofs.Tables.{nodes-same, attributes-same, permissions-same}
 
-map-one : {A B : Type 0} (f : A → B) (l : List A) (x : A) → map f l ++ (f x ∷ []) ≡ map f (l ++ (x ∷ []))
+pub map-one : {A B : Type 0} (f : A → B) (l : List A) (x : A) → map f l ++ (f x ∷ []) ≡ map f (l ++ (x ∷ []))
 map-one f [] x = refl
 map-one f (y ∷ l) x = ap (λ m. f y ∷ m) (map-one f l x)
 

@@ -7,41 +7,28 @@ use Prim.Native.Nat.{ℕ, _-_, _≤_, _<_}
 use native.Mathlib.Omega.{arith}
 use lib.Dec.{T, eqb, leb, ltb, leb→le}
 use lib.ListN.{length, getD, length-map, length-append}
-use borrow.Author.Tests.{eq-eqb, ne-eqb, eqb-true, eqb-false, lt-ltb, le-ltb, ltb-true, ltb-false, le-leb}
+use borrow.Author.Tests.{eq-eqb, ne-eqb, eqb-true, eqb-false, lt-ltb, le-ltb, ltb-true, ltb-false}
 use borrow.Table.Steps.{cases}
-use mir.Facts.{and-yes, yes-and}
+use mir.Facts.{and-yes}
 use Rattle.laws.specs.Sorted.{_∈_, move}
 use Rattle.path.specs.declared.Path.{Path}
 use Rattle.path.specs.Address.{Address, before, same, parent, last, stepsGood}
-use Rattle.path.specs.View.{steps, pathOf, PathSound}
-use Rattle.path.proofs.Structs.{path-valid, valid-short, parent-length}
+use Rattle.path.specs.View.{steps, PathSound}
+use Rattle.path.proofs.Structs.{path-valid, parent-length}
 use Rattle.path.proofs.Laws.{same-self}
 use Rattle.model.specs.Things as things
 use Rattle.model.specs.Things.{Row}
-use Rattle.model.specs.Moves.{at, head, ownerIn, attributeIn, namesIn}
+use Rattle.model.specs.Moves.{at, attributeIn, namesIn}
 use Rattle.model.specs.Refusals.{isRoot}
 use Rattle.model.specs.Image.{nodeFits, attributeFits, left, there}
-use Rattle.tables.specs.declared.Nodes.{Nodes}
 use Rattle.tables.specs.declared.Attributes.{Attributes}
-use Rattle.tables.specs.View.{viewNodes, NodesSound, noNode, viewAttributes, AttributesSound, noAttribute}
+use Rattle.tables.specs.View.{viewAttributes, AttributesSound, noAttribute}
 use Rattle.tables.specs.Places.{beforeObject, ofAttribute}
 use Rattle.tables.proofs.Asked.{attribute-hit}
 use Rattle.tables.proofs.Tables.{attributes-count}
-use Rattle.tables.proofs.Places.{nodes-searched, attributes-searched, attributes-by-path, at-path, of-attribute}
+use Rattle.tables.proofs.Places.{attributes-searched, attributes-by-path, at-path, of-attribute}
 use Rattle.image.specs.Rows.{NoneAfter}
 use Rattle.image.proofs.Newest.{none-here, here-last, few, few-far}
-
-twice : (b : Bool) → not (not b) ≡ b
-twice true = refl
-twice false = refl
-
--- ---- a node that is there is the last one
-module _ (t : Nodes) (h : NodesSound t) (p : Address) (n : NoneAfter p (viewNodes t)) where
-  pub node-none : t .count ≡ 0 → false ≡ there (ownerIn p (viewNodes t))
-  node-none e = sym (none-here (nodes-searched h) p n (at-path p (λ m. there (head m))) refl (λ x l f. rw f) e)
-
-  pub node-last : 0 < t .count → not (before (steps (getD (t .rows) (t .count - 1) noNode .path)) p) ≡ there (ownerIn p (viewNodes t))
-  node-last c = ap not (sym (here-last (nodes-searched h) p n (at-path p (λ m. there (head m))) refl (λ x l f. rw f) noNode c)) ∙ twice (there (ownerIn p (viewNodes t)))
 
 -- ---- an attribute that is there is the last one, and those of its node are the last ones
 module _ (t : Attributes) (h : AttributesSound t) (p : Address) (name : ℕ)
@@ -119,31 +106,13 @@ module _ (p : Address) (here above leftThere : Bool) (n : ℕ) where
             go true = refl
             go false = refl
 
--- ---- the path on the left is a path
-left-good : (l : Address) → 1 < last l → T (stepsGood l) → T (stepsGood (left l))
-left-good [] h t = absurd (omega arith)
-left-good (x ∷ []) h t =
-    let g = and-yes (leb 1 x) (leb x 32) (and-yes (leb 1 x && leb x 32) true t .0) in
-    let u : x ≤ 32 = leb→le x 32 (g .1) in
-    rw (le-leb 1 (x - 1) (omega arith), le-leb (x - 1) 32 (omega arith)) tt
-left-good (x ∷ y ∷ l) h t =
-    let g = and-yes (leb 1 x && leb x 32) (stepsGood (y ∷ l)) t in
-    yes-and (leb 1 x && leb x 32) (stepsGood (left (y ∷ l))) (g .0) (left-good (y ∷ l) h (g .1))
-
+-- ---- the path on the left
 some-step : (l : Address) → 1 < last l → 0 < length l
 some-step [] h = absurd (omega arith)
 some-step (x ∷ l) h = omega arith
 
 pub left-long : (l : Address) → 1 < last l → length (left l) ≡ length l
 left-long l h = let n = parent-length l (some-step l h) in let m = length-append (parent l) ((last l - 1) ∷ []) in omega arith
-
-pub left-sound : {p r : Path} → PathSound p → 1 < last (steps p) → r ≡ pathOf (left (steps p)) → PathSound r
-left-sound {p} h c e =
-    let t = path-valid h in
-    let n = valid-short (steps p) t in
-    let m = left-long (steps p) c in
-    let g = left-good (steps p) c (and-yes (leb (length (steps p)) 6) (stepsGood (steps p)) t .1) in
-    record { model = left (steps p); same = e; fits = rw (le-leb (length (left (steps p))) 6 (omega arith)) g }
 
 -- a step of a path is 1 or more
 last-good : (l : Address) → 0 < length l → T (stepsGood l) → 1 ≤ last l

@@ -14,6 +14,7 @@ use Rattle.model.specs.Things.{Row}
 use Rattle.model.specs.Moves.{ownerIn, attributeIn, namesIn}
 use Rattle.model.specs.Image.{nodeFits, attributeFits, left, there}
 use Rattle.tables.specs.declared.Attribute.{Attribute}
+use Rattle.tables.specs.declared.Permission.{Permission}
 use Rattle.tables.specs.declared.Nodes.{Nodes}
 use Rattle.tables.specs.declared.Attributes.{Attributes}
 use Rattle.tables.specs.declared.Permissions.{Permissions}
@@ -42,6 +43,10 @@ attributeTests node count last far p name =
 -- an attribute's record as a row
 abbrev pub attributeFrom : Record → Attribute
 attributeFrom r = record { path = r .path; name = r .name; owner = r .owner; value = r .value }
+
+-- a permission's record as a row
+abbrev pub permissionFrom : Record → Permission
+permissionFrom r = record { path = r .path; name = r .name; grant = r .grant }
 
 -- record k, if there is one, is not of that kind
 abbrev pub NotOf : ℕ → List ℕ → ℕ → ℕ → Type 0

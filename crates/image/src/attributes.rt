@@ -1,23 +1,23 @@
 // The attributes of an image.
 ghost use mathlib.Core.Path.{_≡_};
 ghost use mathlib.Core.Bool.{_||_};
-ghost use Prim.Native.Nat.{_-_, _*_, _<_};
+ghost use Prim.Native.Nat.{_-_, _*_, _≤_, _<_};
 ghost use lib.Dec.{eqb, ltb};
-ghost use lib.ListN.{length};
+ghost use lib.ListN.{length, take};
 ghost use Rattle.laws.specs.Slots.{pick};
 ghost use Rattle.path.specs.Address.{before};
-ghost use Rattle.path.specs.View.{steps, PathSound};
-ghost use Rattle.model.specs.Moves.{ownerIn};
-ghost use Rattle.model.specs.Image as images;
-ghost use Rattle.tables.specs.View.{viewNodes, NodesSound};
+ghost use Rattle.path.specs.View.{steps, PathSound, keyOf};
 ghost use Rattle.tables.specs.Places.{beforeObject};
 ghost use Rattle.image.specs.Records.{Breaks};
 ghost use Rattle.image.specs.Rows.{attributeTests, attributeFrom, NodesDone, AttributesDone};
-use crate::nodes::node_there;
+ghost use Rattle.image.specs.Columns.{Rises, among};
+use crate::columns::is_among;
+use crate::columns::keys_of;
 use crate::records::record_after;
 use parse::Record;
 use path::Path;
 use path::is_before;
+use path::key;
 use tables::Attribute;
 use tables::Attributes;
 use tables::Nodes;
@@ -64,21 +64,22 @@ fn has_room(count: usize, far: Attribute, p: Path) -> bool
     is_before(far.path, p)
 }
 
-// Whether an attribute of that name at p fits behind so many rows.
+// Whether an attribute of that name at p fits behind so many rows; the nodes are those of the first m keys.
 fn attribute_fits(
-    nodes: Nodes,
+    keys: &[u64],
+    m: usize,
     count: usize,
     last: Attribute,
     far: Attribute,
     p: Path,
     name: u16,
 ) -> bool
-    requires { ⌜ NodesSound nodes × PathSound p × (0 < count → PathSound (last .path)) × (0 < count → PathSound (far .path)) ⌝ }
-    ensures { λ r. ⌜ r ≡ attributeTests (images.there (ownerIn (steps p) (viewNodes nodes))) count last far p name ⌝ }
+    requires { ⌜ (m ≤ length (now keys)) × Rises ltb (take m (now keys)) × PathSound p × (0 < count → PathSound (last .path)) × (0 < count → PathSound (far .path)) ⌝ }
+    ensures { λ r. ⌜ r ≡ attributeTests (among (keyOf p) (take m (now (keys .entry)))) count last far p name ⌝ }
 {
     let fresh = is_new(count, last, p, name);
     let room = has_room(count, far, p);
-    let node = node_there(nodes, p);
+    let node = is_among(keys, m, key(p));
     node & (fresh & ((count < 256) & room))
 }
 
@@ -99,6 +100,7 @@ pub fn read_attributes(image: &[u8], from: usize, n: usize, nodes: Nodes) -> Att
     requires { ⌜ (length (now image) ≡ n * 40) × NodesDone (now image) n from nodes ⌝ }
     ensures { λ r. ⌜ pick (r .ok) (AttributesDone (now (image .entry)) n (r .next) nodes (r .table)) (Breaks (now (image .entry)) n (r .next)) ⌝ }
 {
+    let keys = keys_of(nodes);
     let mut t = no_attributes();
     let mut k = from;
     while k < n {
@@ -115,7 +117,7 @@ pub fn read_attributes(image: &[u8], from: usize, n: usize, nodes: Nodes) -> Att
         let j = back(c, 16);
         let last = t.rows[i];
         let far = t.rows[j];
-        if !attribute_fits(nodes, c, last, far, r.path, r.name) {
+        if !attribute_fits(&keys, nodes.count, c, last, far, r.path, r.name) {
             return AttributesRead {
                 ok: false,
                 next: k,

@@ -15,6 +15,7 @@ use tables::no_nodes;
 use tables::no_permissions;
 
 pub mod attributes;
+pub mod columns;
 pub mod nodes;
 pub mod permissions;
 pub mod records;

@@ -1,26 +1,26 @@
 // The nodes of an image.
 ghost use mathlib.Core.Path.{_≡_};
-ghost use Prim.Native.Nat.{_*_, _<_};
-ghost use lib.ListN.{length};
+ghost use Prim.Native.Nat.{_*_, _≤_, _<_};
+ghost use lib.Dec.{ltb};
+ghost use lib.ListN.{length, take};
 ghost use Rattle.laws.specs.Slots.{pick};
 ghost use Rattle.path.specs.Address.{last};
+ghost use Rattle.path.specs.Packed.{number};
 ghost use Rattle.path.specs.View.{steps, pathOf, PathSound};
-ghost use Rattle.model.specs.Moves.{ownerIn};
 ghost use Rattle.model.specs.Image as images;
-ghost use Rattle.tables.specs.View.{viewNodes, NodesSound};
 ghost use Rattle.image.specs.Records.{Breaks};
-ghost use Rattle.image.specs.Rows.{NoneAfter, NodesDone, nodeFitsIn};
+ghost use Rattle.image.specs.Rows.{NodesDone};
+ghost use Rattle.image.specs.Columns.{Rises, NoneAbove, among, nodeFitsAmong};
+use crate::columns::is_among;
 use crate::records::record_after;
-use lookups::owner_in;
 use path::Path;
 use path::child_of;
-use path::is_before;
+use path::key;
 use path::last_step;
 use path::parent_of;
 use path::size;
 use tables::Node;
 use tables::Nodes;
-use tables::Owner;
 use tables::no_nodes;
 
 // ok: `next` records are good nodes and the table holds them; record `next` is no node, or there is none. Else record `next` is bad. Counted from 0.
@@ -30,28 +30,16 @@ pub struct NodesRead {
     pub table: Nodes,
 }
 
-pub fn node_there(t: Nodes, p: Path) -> bool
-    requires { ⌜ NodesSound t × PathSound p ⌝ }
-    ensures { λ r. ⌜ r ≡ images.there (ownerIn (steps p) (viewNodes t)) ⌝ }
+// Whether k is among the first n keys, none of which is above it: then it is the last one.
+fn node_here(keys: &[u64], n: usize, k: u64) -> bool
+    requires { ⌜ (n ≤ length (now keys)) × Rises ltb (take n (now keys)) × NoneAbove k (take n (now keys)) ⌝ }
+    ensures { λ r. ⌜ r ≡ among k (take n (now (keys .entry))) ⌝ }
 {
-    match owner_in(t, p) {
-        Owner::Nobody => false,
-        Owner::User(_) => true,
-    }
-}
-
-// Whether p is there, of rows none of which comes after it: then it is the last one's.
-fn node_here(t: Nodes, p: Path) -> bool
-    requires { ⌜ NodesSound t × PathSound p × NoneAfter (steps p) (viewNodes t) ⌝ }
-    ensures { λ r. ⌜ r ≡ images.there (ownerIn (steps p) (viewNodes t)) ⌝ }
-{
-    let n = t.count;
     if n == 0 {
         return false;
     }
     let i = n - 1;
-    let a = t.rows[i];
-    !is_before(a.path, p)
+    keys[i] == k
 }
 
 // The path of the node on the left.
@@ -64,27 +52,27 @@ fn left_of(p: Path) -> Path
     m.path
 }
 
-// Whether a node at p fits behind the rows.
-fn node_fits(t: Nodes, p: Path) -> bool
-    requires { ⌜ NodesSound t × PathSound p × NoneAfter (steps p) (viewNodes t) ⌝ }
-    ensures { λ r. ⌜ r ≡ nodeFitsIn (steps p) (viewNodes t) ⌝ }
+// Whether a node at p fits behind those of the first n keys.
+fn node_fits(keys: &[u64], n: usize, p: Path) -> bool
+    requires { ⌜ (n ≤ length (now keys)) × Rises ltb (take n (now keys)) × PathSound p × NoneAbove (number (steps p)) (take n (now keys)) ⌝ }
+    ensures { λ r. ⌜ r ≡ nodeFitsAmong (steps p) (take n (now (keys .entry))) ⌝ }
 {
-    if 64 <= t.count {
+    if 64 <= n {
         return false;
     }
-    if node_here(t, p) {
+    if node_here(keys, n, key(p)) {
         return false;
     }
     if size(p) == 0 {
         return true;
     }
-    if !node_there(t, parent_of(p)) {
+    if !is_among(keys, n, key(parent_of(p))) {
         return false;
     }
     if last_step(p) == 1 {
         return true;
     }
-    node_there(t, left_of(p))
+    is_among(keys, n, key(left_of(p)))
 }
 
 pub fn read_nodes(image: &[u8], n: usize) -> NodesRead
@@ -92,6 +80,7 @@ pub fn read_nodes(image: &[u8], n: usize) -> NodesRead
     ensures { λ r. ⌜ pick (r .ok) (NodesDone (now (image .entry)) n (r .next) (r .table)) (Breaks (now (image .entry)) n (r .next)) ⌝ }
 {
     let mut t = no_nodes();
+    let mut keys: [u64; 64] = [0; 64];
     let mut k: usize = 0;
     while k < n {
         let r = record_after(image, k);
@@ -103,14 +92,15 @@ pub fn read_nodes(image: &[u8], n: usize) -> NodesRead
                 table: t,
             };
         }
-        if !node_fits(t, p) {
+        let c = t.count;
+        if !node_fits(&keys, c, p) {
             return NodesRead {
                 ok: false,
                 next: k,
                 table: t,
             };
         }
-        let c = t.count;
+        keys[c] = key(p);
         t.rows[c] = Node {
             path: p,
             owner: r.owner,

@@ -4,26 +4,30 @@ use borrow.Author.Tests.{not-true, not-false}
 use mathlib.Core.Path.{_≡_, sym, ap, ap₂, subst, _∙_}
 use Prim.Native.Nat.{_≤_, _<_, _+_, _-_}
 use native.Mathlib.Omega.{arith}
-use lib.ListN.{set}
+use lib.ListN.{set, getD}
 use Rattle.laws.proofs.Fill.{held-room, held-each}
 use Rattle.tables.specs.View.{noAttribute, attributesWith}
 use Rattle.tables.proofs.Rows.{attribute-path, attributes-held}
-use Rattle.image.specs.Rows.{AttributesUpto}
+use Rattle.image.specs.Rows.{attributeTests, AttributesUpto}
+use Rattle.image.proofs.Lent.{keys-size, keys-long, keys-ascend, there-by-keys}
 use Rattle.image.proofs.Phases.{attributes-begin, answerAt, attribute-path-sound, attribute-breaks, attribute-room, attributes-more}
 use Rattle.image.proofs.attributes.read_attributes.Statement.{statement}
 use Rattle.image.proofs.attributes.read_attributes.Tie as tie
 
 abbrev Inv-loop : tie.InvT-loop
-Inv-loop image from n nodes t₀ k₀ t k = AttributesUpto image n k nodes t
+Inv-loop image from n nodes keys t₀ k₀ t k = AttributesUpto image n k nodes t
 
 abbrev μ-loop : tie.MeasureT-loop
-μ-loop image from n nodes t₀ k₀ t k = n - k
+μ-loop image from n nodes keys t₀ k₀ t k = n - k
+
+keys-of-requires : tie.Need-keys-of-requires Inv-loop μ-loop
+keys-of-requires c κs = c .before .pre .1 .read .sound
 
 no-attributes-requires : tie.Need-no-attributes-requires Inv-loop μ-loop
 no-attributes-requires c κs = search needs
 
 loop-holds : tie.Need-loop-holds Inv-loop μ-loop
-loop-holds c = attributes-begin (c .before .before .pre .1) (c .no-attributes .ensures)
+loop-holds c = attributes-begin (c .before .before .before .pre .1) (c .no-attributes .ensures)
 
 record-after-requires : tie.Need-record-after-requires Inv-loop μ-loop
 record-after-requires c κs = search needs
@@ -73,48 +77,64 @@ element-copy-out-far c =
     let j = c .before .back2 .ensures in
     search needs
 
+slice-aggregate-attribute-fits : tie.Need-slice-aggregate-attribute-fits Inv-loop μ-loop
+slice-aggregate-attribute-fits c =
+    let l = c .before .before .before .before .before .before .before .before .before in
+    let k = l .before .before in
+    sym (keys-size (k .before .before .args .nodes) (l .loop .inv .on) (k .keys-of .result) (k .keys-of .ensures))
+
 attribute-fits-requires : tie.Need-attribute-fits-requires Inv-loop μ-loop
 attribute-fits-requires c κs =
-    let d = c .before .before in
+    let d = c .before .before .before in
     let e = d .before .before in
     let r = e .before .before in
     let l = r .before .before .loop in
+    let k = r .before .before .before .before in
+    let nodes = k .before .before .args .nodes in
     let i = d .before .back .ensures in
     let j = d .back2 .ensures in
     let held = attributes-held (l .t) (l .inv .sound) in (
-      l .inv .on,
+      keys-long nodes (l .inv .on) (k .keys-of .result) (k .keys-of .ensures),
+      keys-ascend nodes (l .inv .on) (k .keys-of .result) (k .keys-of .ensures),
       attribute-path-sound (l .inv) (r .record-after .result) (r .record-after .ensures) (e .if1 .left),
       λ p. attribute-path (held-each _ _ _ _ _ _ held (d .before .back .result) noAttribute (omega arith)),
       λ p. attribute-path (held-each _ _ _ _ _ _ held (d .back2 .result) noAttribute (omega arith)),
     )
 
--- what the tests answer is what is asked of the last row and of that 16 places before the end
+-- what the tests answer is what is asked of the nodes, of the last row and of that 16 places before the end
 answer : (c : tie.After-attribute-fits Inv-loop μ-loop)
-    → answerAt (c .before .before .before .before .before .before .before .before .before .before .before .before .args .nodes)
-    (c .before .before .before .before .before .before .before .before .before .loop .t)
-    (c .before .before .before .before .before .before .before .record-after .result .path)
-    (c .before .before .before .before .before .before .before .record-after .result .name)
-    (c .before .before .before .before .before .before .before .before .before .loop .t .count - 1)
-    (c .before .before .before .before .before .before .before .before .before .loop .t .count - 16)
+    → answerAt (c .before .before .before .before .before .before .before .before .before .before .before .before .before .before .args .nodes)
+    (c .before .before .before .before .before .before .before .before .before .before .loop .t)
+    (c .before .before .before .before .before .before .before .before .record-after .result .path)
+    (c .before .before .before .before .before .before .before .before .record-after .result .name)
+    (c .before .before .before .before .before .before .before .before .before .before .loop .t .count - 1)
+    (c .before .before .before .before .before .before .before .before .before .before .loop .t .count - 16)
     ≡ c .attribute-fits .result
 answer c =
-    let d = c .before .before .before in
+    let d = c .before .before .before .before in
     let e = d .before .before in
     let r = e .before .before in
     let l = r .before .before in
-    ap₂ (answerAt (l .before .before .before .args .nodes) (l .loop .t) (r .record-after .result .path) (r .record-after .result .name)) (sym (d .before .back .ensures)) (sym (d .back2 .ensures))
+    let k = l .before .before in
+    let nodes = k .before .before .args .nodes in
+    let p = r .record-after .result .path in
+    let name = r .record-after .result .name in
+    let sound = attribute-path-sound (l .loop .inv) (r .record-after .result) (r .record-after .ensures) (e .if1 .left) in
+    ap₂ (answerAt nodes (l .loop .t) p name) (sym (d .before .back .ensures)) (sym (d .back2 .ensures))
+    ∙ ap (λ b. attributeTests b (l .loop .t .count) (getD (l .loop .t .rows) (d .before .back .result) noAttribute) (getD (l .loop .t .rows) (d .back2 .result) noAttribute) p name)
+    (sym (there-by-keys nodes (l .loop .inv .on) (k .keys-of .result) (k .keys-of .ensures) p sound))
     ∙ sym (c .attribute-fits .ensures)
 
 returns-2 : tie.Need-returns-2 Inv-loop μ-loop
 returns-2 c =
-    let e = c .before .before .before .before .before .before in
+    let e = c .before .before .before .before .before .before .before in
     let r = e .before .before in
     let l = r .before .before .loop in
     attribute-breaks (l .inv) (r .record-after .result) (r .record-after .ensures) (e .if1 .left) (r .before .loop-test .taken) (answer (c .before) ∙ not-true _ (c .if2 .taken))
 
-room : (c : tie.Else2 Inv-loop μ-loop) → c .before .before .before .before .before .before .before .before .before .before .loop .t .count < 256
+room : (c : tie.Else2 Inv-loop μ-loop) → c .before .before .before .before .before .before .before .before .before .before .before .loop .t .count < 256
 room c =
-    let e = c .before .before .before .before .before .before in
+    let e = c .before .before .before .before .before .before .before in
     let r = e .before .before in
     let l = r .before .before .loop in
     attribute-room (l .inv) (r .record-after .result) (r .record-after .ensures) (e .if1 .left) (answer (c .before) ∙ not-false _ (c .if2 .left))
@@ -122,8 +142,8 @@ room c =
 attribute-of-requires : tie.Need-attribute-of-requires Inv-loop μ-loop
 attribute-of-requires c κs = search needs
 
-mul-t16 : tie.Need-mul-t16 Inv-loop μ-loop
-mul-t16 c = let h = room (c .before) in search needs
+mul-t18 : tie.Need-mul-t18 Inv-loop μ-loop
+mul-t18 c = let h = room (c .before) in search needs
 
 element-set-from-t : tie.Need-element-set-from-t Inv-loop μ-loop
 element-set-from-t c = room (c .before)
@@ -133,8 +153,8 @@ add-t c = let h = room (c .before) in search needs
 
 add-k : tie.Need-add-k Inv-loop μ-loop
 add-k c =
-    let i = c .before .before .before .before .before .before .before .before .before .before in
-    let s = i .before .before .before .before in
+    let i = c .before .before .before .before .before .before .before .before .before .before .before in
+    let s = i .before .before .before .before .before in
     let h = i .loop-test .taken in
     search needs
 
@@ -144,10 +164,10 @@ loop-less c = search needs
 loop-again : tie.Need-loop-again Inv-loop μ-loop
 loop-again c =
     let f = c .before in
-    let e = f .before .before .before .before .before .before in
+    let e = f .before .before .before .before .before .before .before in
     let r = e .before .before in
     let l = r .before .before in
-    subst (λ x. AttributesUpto (l .before .before .before .args .image .now) (l .before .before .before .args .n) (l .loop .k + 1) (l .before .before .before .args .nodes) (attributesWith (set (l .loop .t .rows) (l .loop .t .count) x) (l .loop .t .count + 1)))
+    subst (λ x. AttributesUpto (l .before .before .before .before .args .image .now) (l .before .before .before .before .args .n) (l .loop .k + 1) (l .before .before .before .before .args .nodes) (attributesWith (set (l .loop .t .rows) (l .loop .t .count) x) (l .loop .t .count + 1)))
     (sym (c .attribute-of .ensures))
     (attributes-more (l .loop .inv) (r .record-after .result) (r .record-after .ensures) (e .if1 .left) (answer (f .before) ∙ not-false _ (f .if2 .left)) (r .before .loop-test .taken))
 
@@ -162,6 +182,7 @@ read-attributes-spec =
     (tie.spec
     Inv-loop
     μ-loop
+    keys-of-requires
     no-attributes-requires
     loop-holds
     record-after-requires
@@ -172,10 +193,11 @@ read-attributes-spec =
     element-copy-out-last
     mul-far
     element-copy-out-far
+    slice-aggregate-attribute-fits
     attribute-fits-requires
     returns-2
     attribute-of-requires
-    mul-t16
+    mul-t18
     element-set-from-t
     add-t
     add-k
