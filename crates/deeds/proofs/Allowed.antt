@@ -13,7 +13,7 @@ use Rattle.path.specs.Address.{Address}
 use Rattle.model.specs.Things.{Permission, Dossier, Clipboard}
 use Rattle.model.specs.Decide.{clashAny}
 use Rattle.model.specs.Moves.{grantRow, nodeAt, attributeAt, attributeObject, objectAt}
-use Rattle.model.specs.Refusals.{Request, missing, nameGood, valueGood, permissionGood, grantGood, ownGood, isRoot, permissionsOf, totals, Standing, refusal}
+use Rattle.model.specs.Refusals.{Request, missing, nameGood, valueGood, permissionGood, grantGood, ownGood, isRoot, permissionsOf, totals}
 use Rattle.model.specs.Image.{there}
 use Rattle.model.specs.Run.{found, cached}
 use Rattle.roundtrip.proofs.Checks.{not-not, there-map}
@@ -24,11 +24,7 @@ use Rattle.twin.proofs.Requests.{Within, Passed, passed, operands-good, numbere
 use Rattle.twin.proofs.KeepRequest.{map-missing}
 use Rattle.moves.specs.Room.{FreshPermission}
 use Rattle.edits.specs.Room.{AttributeRoom, NodeRoom, PermissionRoom}
-
--- no row of the refusal table applies, for some standing of the user
-pub record Allowed (r : Request) (d : Dossier) (c : Clipboard) : Type 0 where
-  pub standing : Standing
-  pub free : refusal r (found r d) (cached c) standing ≡ none
+use Rattle.deeds.specs.Classes.{Allowed}
 
 not-root : (p : Address) → (T (isRoot p) → ⊥) → 0 < length p
 not-root [] n = absurd (n tt)

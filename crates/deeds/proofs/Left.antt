@@ -32,7 +32,7 @@ use Rattle.state.proofs.Logs.{log-count}
 use Rattle.state.proofs.Sessions.{dossier-same, one-sound, two-sound, clipboard-sound, log-sound}
 use Rattle.twin.proofs.Requests.{below, passed, numbered}
 use Rattle.deeds.specs.Deeds.{Served, carriedOf}
-use Rattle.deeds.proofs.Allowed.{Allowed}
+use Rattle.deeds.specs.Classes.{Allowed}
 
 -- ---- a session in parts
 -- with another dossier under a number, another clipboard and another log

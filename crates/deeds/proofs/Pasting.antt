@@ -15,7 +15,8 @@ use Rattle.tables.specs.declared.Clipboard.{Clipboard}
 use Rattle.tables.specs.View.{viewDossier, DossierSound, viewClipboard, clipboardOf, ClipboardSound, singleRows}
 use Rattle.tables.proofs.Rows.{view-dossier, view-clipboard}
 use Rattle.edits.specs.Room.{Room, SingleRoom}
-use Rattle.deeds.proofs.Allowed.{Allowed, paste-room, paste-branch, single-room}
+use Rattle.deeds.specs.Classes.{Allowed}
+use Rattle.deeds.proofs.Allowed.{paste-room, paste-branch, single-room}
 
 -- ---- a branch
 pub record Branch (c : Clipboard) : Type 0 where

@@ -32,6 +32,7 @@ use state::parts::edited;
 use state::plain;
 use tables::Clipboard;
 
+pub mod classes;
 pub mod requests;
 
 // The request carried out, its messages logged before: the match over request numbers 1 to 17, everything else refused 1. c is what there is to
