@@ -1,3 +1,4 @@
 pub mod Judging
 pub mod Placing
 pub mod Kept
+pub mod Unread

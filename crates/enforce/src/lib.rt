@@ -125,13 +125,14 @@ pub fn stays(r: Request) -> bool
 }
 
 // Its image placed as a branch of its user's, or the first record that is bad or a permission.
-pub fn laden(r: Request, image: &[u8]) -> Laden
+pub fn as_branch(r: Request, image: &[u8]) -> Laden
     ensures { λ l. ⌜ l ≡ ladenOf r (loadedOf (loadAdded (r .user) (now (image .entry)))) ⌝ }
 {
     let l = load_branch(image, r.user);
+    let held = l.dossier;
     let c = Clipboard {
         kind: 1,
-        held: l.dossier,
+        held: held,
     };
     Laden {
         good: l.good,

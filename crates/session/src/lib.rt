@@ -7,7 +7,7 @@ ghost use Rattle.state.specs.View.{sessionOf, SessionSound, viewRequest};
 ghost use Rattle.state.specs.Calls.{bufferAfter, steppedOf, Steps, Writes};
 use crate::parts::perform;
 use crate::parts::place;
-use enforce::laden;
+use enforce::as_branch;
 use enforce::stays;
 use state::Answer;
 use state::Request;
@@ -31,7 +31,7 @@ pub fn request(s: &mut Session, r: Request, image: &[u8]) -> Answer
     if stays(r) {
         return perform(s, r);
     }
-    let l = laden(r, image);
+    let l = as_branch(r, image);
     place(s, l)
 }
 
