@@ -1,5 +1,5 @@
 -- What a request of a class leaves as it is: tables, clipboard, dossier and answer. Assumes nothing.
-use mathlib.Core.Path.{_≡_, refl, sym}
+use mathlib.Core.Path.{_≡_, refl, sym, ap}
 use mathlib.Core.Option.{Option}
 use mathlib.Core.List.{[], _∷_}
 use Prim.Native.Nat.{ℕ}
@@ -7,10 +7,11 @@ use lib.Dec.{T}
 use Rattle.model.specs.Things as things
 use Rattle.model.specs.Refusals.{Request, Found, among}
 use Rattle.model.specs.Run as run
+use Rattle.tables.specs.declared.Attributes.{Attributes}
+use Rattle.tables.specs.declared.Permissions.{Permissions}
 use Rattle.tables.specs.declared.Dossier.{Dossier}
 use Rattle.tables.specs.View.{viewDossier, dossierOf, DossierSound}
-use Rattle.tables.proofs.Parts.{dossier-fits, nodes-sound, attributes-sound, permissions-sound}
-use Rattle.tables.proofs.Tables.{nodes-same, attributes-same, permissions-same}
+use Rattle.state.proofs.Sessions.{dossier-same}
 use Rattle.twin.proofs.Requests.{numbered}
 use Rattle.deeds.specs.Classes.{Open, classOf}
 use Rattle.deeds.proofs.Allowed.{attribute-there, attribute-there-cut}
@@ -18,31 +19,31 @@ use Rattle.deeds.proofs.Looked.{copied-any}
 use Rattle.deeds.proofs.Numbers.{two, three, by-class, by-classes}
 
 -- ---- one table alone changes
--- the dossier with the attributes, or with the permissions, that the request leaves
-abbrev pub withAttributes : Dossier → Request → Dossier
-withAttributes d r = record { nodes = d .nodes; attributes = dossierOf (run.edited r (viewDossier d) things.empty) .attributes; permissions = d .permissions }
+-- the dossier with another table
+abbrev pub withAttributes : Attributes → Dossier → Dossier
+withAttributes t d = record { nodes = d .nodes; attributes = t; permissions = d .permissions }
 
-abbrev pub withPermissions : Dossier → Request → Dossier
-withPermissions d r = record { nodes = d .nodes; attributes = d .attributes; permissions = dossierOf (run.edited r (viewDossier d) things.empty) .permissions }
+abbrev pub withPermissions : Permissions → Dossier → Dossier
+withPermissions t d = record { nodes = d .nodes; attributes = d .attributes; permissions = t }
 
 module _ (r : Request) {d : Dossier} (h : DossierSound d) (c : things.Clipboard) where
-  pub attributes-only : classOf (r .number) ≡ 2 → dossierOf (run.edited r (viewDossier d) c) ≡ withAttributes d r
-  attributes-only e = by-class (λ k. dossierOf (run.edited (numbered k r) (viewDossier d) c) ≡ withAttributes d (numbered k r)) (r .number) e (two (same 8) (same 10))
+  pub attributes-only : classOf (r .number) ≡ 2
+      → dossierOf (run.edited r (viewDossier d) c) ≡ withAttributes (dossierOf (run.edited r (viewDossier d) things.empty) .attributes) d
+  attributes-only e =
+      by-class (λ k. dossierOf (run.edited (numbered k r) (viewDossier d) c) ≡ withAttributes (dossierOf (run.edited (numbered k r) (viewDossier d) things.empty) .attributes) d)
+      (r .number) e (two (rest _) (rest _))
     where
-      same : (k : ℕ)
-          → record { nodes = dossierOf (viewDossier d) .nodes; attributes = dossierOf (run.edited (numbered k r) (viewDossier d) things.empty) .attributes; permissions = dossierOf (viewDossier d) .permissions } ≡ withAttributes d (numbered k r)
-      same k =
-          let f = dossier-fits h in
-          λ i. record { nodes = sym (nodes-same _ (nodes-sound f)) i; attributes = dossierOf (run.edited (numbered k r) (viewDossier d) things.empty) .attributes; permissions = sym (permissions-same _ (permissions-sound f)) i }
+      rest : (t : Attributes) → withAttributes t (dossierOf (viewDossier d)) ≡ withAttributes t d
+      rest t = ap (withAttributes t) (sym (dossier-same h))
 
-  pub permissions-only : classOf (r .number) ≡ 3 → dossierOf (run.edited r (viewDossier d) c) ≡ withPermissions d r
-  permissions-only e = by-class (λ k. dossierOf (run.edited (numbered k r) (viewDossier d) c) ≡ withPermissions d (numbered k r)) (r .number) e (three (same 14) (same 15) (same 16))
+  pub permissions-only : classOf (r .number) ≡ 3
+      → dossierOf (run.edited r (viewDossier d) c) ≡ withPermissions (dossierOf (run.edited r (viewDossier d) things.empty) .permissions) d
+  permissions-only e =
+      by-class (λ k. dossierOf (run.edited (numbered k r) (viewDossier d) c) ≡ withPermissions (dossierOf (run.edited (numbered k r) (viewDossier d) things.empty) .permissions) d)
+      (r .number) e (three (rest _) (rest _) (rest _))
     where
-      same : (k : ℕ)
-          → record { nodes = dossierOf (viewDossier d) .nodes; attributes = dossierOf (viewDossier d) .attributes; permissions = dossierOf (run.edited (numbered k r) (viewDossier d) things.empty) .permissions } ≡ withPermissions d (numbered k r)
-      same k =
-          let f = dossier-fits h in
-          λ i. record { nodes = sym (nodes-same _ (nodes-sound f)) i; attributes = sym (attributes-same _ (attributes-sound f)) i; permissions = dossierOf (run.edited (numbered k r) (viewDossier d) things.empty) .permissions }
+      rest : (t : Permissions) → withPermissions t (dossierOf (viewDossier d)) ≡ withPermissions t d
+      rest t = ap (withPermissions t) (sym (dossier-same h))
 
 -- ---- what is not looked at, and what stays; k is the request's class
 module _ (r : Request) (d : things.Dossier) (c : things.Clipboard) {k : ℕ} (e : classOf (r .number) ≡ k) where

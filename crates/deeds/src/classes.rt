@@ -1,5 +1,5 @@
-// What a judged request does, by its class: each function is given the dossier that the request names, and gives back only what changes. What it
-// does not give back stays as it is. Every callee has one call site, so that none of the tables is copied for it.
+// What a judged request does, by its class: a function is given the dossier that the request names, and gives back only what changes. In each
+// function a callee has one call site: it is inlined there, and no table is copied for it.
 ghost use mathlib.Core.Path.{_≡_};
 ghost use mathlib.Core.Logic.{_⊎_};
 ghost use Prim.Native.Nat.{_+_, _≤_};
@@ -65,7 +65,8 @@ pub struct PermissionsOut {
     pub permissions: Permissions,
 }
 
-// The class of a request's number; an arm each for numbers that follow one another.
+// What a request of that number does: 1 reads, 2 changes attributes, 3 changes permissions, 4 edits, 5 pastes, 6 copies, 7 cuts (copies, then
+// edits); 0 for a number that no request has. An arm each for numbers that follow one another.
 pub fn class_of(number: u8) -> u8
     ensures { λ r. ⌜ r ≡ classOf number ⌝ }
 {
