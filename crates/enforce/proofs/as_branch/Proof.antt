@@ -13,8 +13,8 @@ plain-requires c κs = search needs
 
 returns : tie.Need-returns
 returns c =
-    let l = c .before in
-    let r = l .before .before .before .args .r in
+    let l = c .before .before in
+    let r = l .before .before .args .r in
     (λ i. record { good = l .load-branch .result .good; request = r; answer = c .plain .ensures i; clipboard = record { kind = 1; held = l .load-branch .result .dossier } })
     ∙ ap (ladenOf r) (l .load-branch .ensures)
 

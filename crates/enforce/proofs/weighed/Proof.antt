@@ -42,14 +42,17 @@ told c =
     (refusal-same q f (standingOf q (viewSignatures (s .args .rows)) (s .args .log .count)) (viewCache (c .before .cache-for .result)) (run.cached (viewClipboard (s .args .c))) (c .before .cache-for .ensures .0)))
 
 returns : tie.Need-returns
-returns c = let j = c .before .before in ap (verdictOf (j .before .before .args .r)) (sym (c .n .given .1)) ∙ told j
+returns c =
+    let n = c .before in
+    let j = n .before .before in
+    ap (verdictOf (j .before .before .args .r)) (sym (n .n .given .1)) ∙ told j
 
 returns-2 : tie.Need-returns-2
 returns-2 c =
-    let m = c .before in
+    let m = c .before .before in
     let j = m .before .before in
     let r = j .before .before .args .r in
-    ap (λ (k : ℕ). record { class = k; dossier = r .dossier; refusal = 0; messages = m .messages .value; request = r }) (c .class-of .ensures) ∙ ap (verdictOf r) (sym (m .messages .given .1)) ∙ told j
+    ap (λ (k : ℕ). record { class = k; dossier = r .dossier; refusal = 0; messages = m .messages .given .0 .0; request = r }) (c .class-of .ensures) ∙ ap (verdictOf r) (sym (m .messages .given .1)) ∙ told j
 
 pub weighed-spec : {M : Type 1} → statement M
 weighed-spec = tie.close (tie.spec cache-for-requires judged-requires enum-known-n enum-known-messages class-of-requires returns returns-2)
