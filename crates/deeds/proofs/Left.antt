@@ -2,7 +2,7 @@
 use mathlib.Core.Path.{_≡_, refl, sym, ap, subst, _∙_}
 use mathlib.Core.Bool.{Bool, true, false}
 use mathlib.Core.Option.{none}
-use mathlib.Core.List.{List}
+use mathlib.Core.List.{List, append-nil}
 use Prim.Native.Nat.{ℕ, _+_, _≤_}
 use native.Mathlib.Omega.{arith}
 use lib.Dec.{eqb}
@@ -28,7 +28,7 @@ use Rattle.state.specs.View.{viewSession, sessionOf, viewLog, logOf, answerOf, 
 use Rattle.state.specs.Calls.{LogSound}
 use Rattle.state.specs.Parts.{numberedIn}
 use Rattle.state.proofs.Signing.{rows-back}
-use Rattle.state.proofs.Logs.{log-count}
+use Rattle.state.proofs.Logs.{log-count, view-log}
 use Rattle.state.proofs.Sessions.{dossier-same, one-sound, two-sound, clipboard-sound, log-sound}
 use Rattle.twin.proofs.Requests.{below, passed, numbered}
 use Rattle.deeds.specs.Deeds.{Served, carriedOf}
@@ -78,6 +78,13 @@ numbered-view s n e = ap viewDossier e ∙ go (eqb n 1)
     go : (b : Bool) → viewDossier (pick b (s .one) (s .two)) ≡ pick b (viewDossier (s .one)) (viewDossier (s .two))
     go true = refl
     go false = refl
+
+-- no messages add nothing to the log
+pub log-quiet : (user : ℕ) {messages : ℕ} {log : Log} → LogSound log → messages ≡ 0 → log ≡ logOf (run.logged user messages (viewLog log))
+log-quiet user {messages} {log} h e =
+    is-same logOf viewLog view-log (λ l. length l ≤ 256) log h
+    ∙ ap logOf (sym (append-nil (viewLog log)))
+    ∙ ap (λ (m : ℕ). logOf (run.logged user m (viewLog log))) (sym e)
 
 -- ---- a request that is served
 abbrev stepped : Session → Answer → Stepped

@@ -19,10 +19,8 @@ use Rattle.state.specs.declared.Outcome.the-variants.{Refused}
 use Rattle.state.specs.View.{viewSignatures, viewSession, SessionSound, plainOf}
 use Rattle.state.proofs.Logs.{log-count}
 use Rattle.state.proofs.Sessions.{session-back, log-sound}
-use Rattle.refusals.specs.declared.Cache.{Cache}
 use Rattle.judge.specs.declared.Judged.{Judged}
 use Rattle.judge.specs.declared.Judged.the-variants as told
-use Rattle.refusals.specs.View.{viewCache}
 use Rattle.judge.specs.View.{standingOf, judgedOf}
 use Rattle.twin.proofs.Refusal.{judged, outcome, refused-by}
 use Rattle.twin.proofs.Requests.{passed, request-common}
@@ -47,13 +45,13 @@ path-good s r m e =
     yes-and (leb (length (r .path)) 6) (stepsGood (r .path)) (le→leb (length (r .path)) 6 (w .short)) (w .steps)
 
 -- m is what there is to paste
-module _ {s : Session} (h : SessionSound s) (r : Request) {d : Dossier} (e : d ≡ numberedIn (r .dossier) s) (m : things.Clipboard) {c : Cache} (k : viewCache c ≡ cached m)
-    {j : Judged} (told-so : j ≡ judgedOf (refusal r (found r (viewDossier d)) (viewCache c) (standingOf r (viewSignatures (s .signatures)) (s .log .count))) (granted r (found r (viewDossier d)))) where
+module _ {s : Session} (h : SessionSound s) (r : Request) {d : Dossier} (e : d ≡ numberedIn (r .dossier) s) (m : things.Clipboard)
+    {j : Judged} (told-so : j ≡ judgedOf (refusal r (found r (viewDossier d)) (cached m) (standingOf r (viewSignatures (s .signatures)) (s .log .count))) (granted r (found r (viewDossier d)))) where
   whole-session : j ≡ judgedOf (judged (viewSession s) r m) (granted r (found r (dossier (r .dossier) (viewSession s))))
   whole-session =
       let f = numbered-view s (r .dossier) e in
       let n = log-count (s .log) (log-sound h) in
-      told-so ∙ (λ i. judgedOf (refusal r (found r (f i)) (k i) (standingOf r (viewSignatures (s .signatures)) (n i))) (granted r (found r (f i))))
+      told-so ∙ (λ i. judgedOf (refusal r (found r (f i)) (cached m) (standingOf r (viewSignatures (s .signatures)) (n i))) (granted r (found r (f i))))
 
   pub refused-so : {n : ℕ} → told.Refused n ≡ j → record { session = s; answer = plainOf (Refused n) } ≡ fromOf s r m
   refused-so {n} t =

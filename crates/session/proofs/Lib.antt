@@ -6,3 +6,9 @@ pub mod Runs
 pub mod Determined
 pub mod Granted
 pub mod Demands
+pub mod RequestParts
+pub mod Ways
+pub mod Stored
+pub mod Deeds
+pub mod Acts
+pub mod Placed

@@ -65,7 +65,7 @@ pub record Granted (s : Session) (v : Verdict) : Type 0 where
   pub named : v .dossier ≡ v .request .dossier
   pub class : v .class ≡ classOf (v .request .number)
   pub sound : DossierSound (namedIn s v)
-  pub open : Open (viewRequest (v .request)) (viewDossier (namedIn s v))
+  pub free : Open (viewRequest (v .request)) (viewDossier (namedIn s v))
 
 -- nor with what is on the clipboard
 pub record Laid (s : Session) (v : Verdict) : Type 0 where
