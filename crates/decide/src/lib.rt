@@ -197,7 +197,7 @@ fn there_or(o: Owner, d: Decision) -> Decision
 }
 
 // The object of requests 14 to 16.
-fn object_owner(o: Owners, name: u16) -> Owner
+pub fn object_owner(o: Owners, name: u16) -> Owner
     ensures { λ r. ⌜ r ≡ pick (eqb name 0) (o .node) (o .attribute) ⌝ }
 {
     if name == 0 {

@@ -26,16 +26,9 @@ use Rattle.tables.proofs.Parts.{nodes-sound, attributes-sound, permissions-soun
 use Rattle.tables.proofs.Rows.{nodes-held, attributes-held, permissions-held}
 use Rattle.tables.proofs.Tables.{nodes-count, attributes-count, permissions-count}
 use Rattle.decide.specs.View.{objectOwner}
+use Rattle.refusals.specs.Look.{ownerless, unfound}
 
 -- ---- what is not there
-abbrev pub ownerless : Owner → Bool
-ownerless Nobody = true
-ownerless (User u) = false
-
-abbrev pub unfound : Found → Bool
-unfound Absent = true
-unfound (Present u v) = false
-
 missing-map : {A : Type 0} (f : A → Object) (o : Option A) → missing o ≡ missing (Option·map f o)
 missing-map f none = refl
 missing-map f (some a) = refl
