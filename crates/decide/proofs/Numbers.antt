@@ -2,7 +2,6 @@
 use mathlib.Core.Path.{_≡_, sym, ap, subst, _∙_}
 use mathlib.Core.List.{List}
 use Prim.Native.Nat.{ℕ}
-use Rattle.path.specs.Address.{parent}
 use Rattle.path.specs.View.{steps}
 use Rattle.model.specs.Things.{Row, Permission}
 use Rattle.model.specs.Decide as model

@@ -9,10 +9,7 @@ use Prim.Native.Nat.{ℕ}
 use native.Mathlib.Omega.{arith}
 use lib.Dec.{eqb}
 use Rattle.laws.specs.Slots.{pick}
-use Rattle.path.specs.declared.Path.{Path}
-use Rattle.path.specs.Address.{Address, parent}
-use Rattle.path.specs.View.{steps, pathOf}
-use Rattle.path.proofs.Structs.{view-path}
+use Rattle.path.specs.Address.{Address}
 use Rattle.model.specs.Things.{Attribute, Permission, Dossier}
 use Rattle.model.specs.Decide.{Object, Provisions, nothing, given, joined}
 use Rattle.model.specs.Moves.{ownerIn, permissionsIn, attributeIn, nodeAt, attributeObject, objectAt}
@@ -125,11 +122,6 @@ decision-seen (some x) = refl
 
 pub both-joined : {a b r : Decision} (x y : Option Provisions) → r ≡ decisionOf (joined (viewDecision a) (viewDecision b)) → a ≡ decisionOf x → b ≡ decisionOf y → r ≡ decisionOf (joined x y)
 both-joined x y e h k = e ∙ ap₂ (λ v w. decisionOf (joined v w)) (ap viewDecision h ∙ decision-seen x) (ap viewDecision k ∙ decision-seen y)
-
--- ---- the node above
-pub on-parent : (f : Object → Option Provisions) (p : Path) (d : Dossier) {q : Path} {r : Decision} → q ≡ pathOf (parent (steps p))
-    → r ≡ decisionOf (given f (nodeAt (steps q) d)) → r ≡ decisionOf (given f (nodeAt (parent (steps p)) d))
-on-parent f p d e h = h ∙ ap (λ l. decisionOf (given f (nodeAt l d))) (ap steps e ∙ view-path (parent (steps p)))
 
 -- ---- objects from their owners
 pub node-owned : (p : Address) (d : Dossier) → objectOwned (ownerOf (ownerIn p (d .nodes))) (permissionsIn p 0 (d .permissions)) ≡ nodeAt p d

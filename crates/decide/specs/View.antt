@@ -70,7 +70,7 @@ needed node parent attribute =
 abbrev pub foundBy : Request → Owners → List (Row (ℕ × Permission)) → Found
 foundBy r o l =
     needed (objectOwned (o .node) (permissionsIn (r .path) 0 l)) (objectOwned (o .parent) (permissionsIn (parent (r .path)) 0 l))
-        (objectOwned (o .attribute) (permissionsIn (r .path) (r .name) l))
+    (objectOwned (o .attribute) (permissionsIn (r .path) (r .name) l))
 
 -- "the user owns it (no provisions), or" what the permissions give
 abbrev pub ownedOr : Owner → ℕ → Decision → Decision

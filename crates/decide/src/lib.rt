@@ -168,7 +168,11 @@ fn owners_in(n: Nodes, t: Attributes, p: Path, name: u16) -> Owners
     let node = owner_in(n, p);
     let parent = owner_in(n, parent_of(p));
     let attribute = owner_found(attribute_in(t, p, name));
-    Owners { node: node, parent: parent, attribute: attribute }
+    Owners {
+        node: node,
+        parent: parent,
+        attribute: attribute,
+    }
 }
 
 // The user owns it (no provisions), or what the permissions give.
@@ -209,7 +213,11 @@ pub fn object_owner(o: Owners, name: u16) -> Owner
 fn no_walk() -> Walk
     ensures { λ r. ⌜ r ≡ noWalk ⌝ }
 {
-    Walk { read: Decision::Denied, change: Decision::Denied, delegate: Decision::Denied }
+    Walk {
+        read: Decision::Denied,
+        change: Decision::Denied,
+        delegate: Decision::Denied,
+    }
 }
 
 fn name_for(node: bool, name: u16) -> u16
@@ -287,7 +295,10 @@ pub fn rights(a: Asked, o: Owners, t: Permissions) -> Decision
         6 => joined(owned_or(node, user, read), owned_or(parent, user, change)),
         8 | 13 => owned_or(node, user, change),
         9 => owned_or(node, user, change),
-        10 | 12 => joined(owned_or(attribute, user, read), owned_or(node, user, change)),
+        10 | 12 => joined(
+            owned_or(attribute, user, read),
+            owned_or(node, user, change),
+        ),
         14 => owned_or(object, user, Decision::Denied),
         15 => owned_or(object, user, Decision::Denied),
         16 => there_or(object, delegate),

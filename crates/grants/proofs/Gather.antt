@@ -36,10 +36,14 @@ gather-end rest p n t i g c = sym (g .1 ∙ ap (λ m. rest (permissionsIn p n m)
 -- row i is there: q says whether its path is p
 module _ {A : Type 0} {whole : A} (rest : List things.Permission → A) (p : Address) (n : ℕ) (t : Permissions) (i : ℕ) (g : Gathers whole rest p n t i) (h : PermissionsSound t)
     (c : i < t .count) {q : Bool} (e : q ≡ same (steps (getD (t .rows) i noPermission .path)) p) where
-  -- it is another object's: no more of the object's follow
-  pub gather-other : (eqb (getD (t .rows) i noPermission .name) n && q) ≡ false → rest [] ≡ whole
+  -- it is another object's: no more of the object's follow, as none follow at the end
+  pub gather-other : (eqb (getD (t .rows) i noPermission .name) n && q) ≡ false → Gathers whole rest p n t (t .count)
   gather-other f =
-      sym (g .1 ∙ rows-other (permissions-searched h) (p, n) (of-permission p n rest) i noPermission (g .0) c (ap (λ b. eqb (getD (t .rows) i noPermission .name) n && b) (sym e) ∙ f))
+      let k = g .0 in (
+        omega arith,
+        g .1 ∙ rows-other (permissions-searched h) (p, n) (of-permission p n rest) i noPermission (g .0) c (ap (λ b. eqb (getD (t .rows) i noPermission .name) n && b) (sym e) ∙ f)
+            ∙ ap (λ m. rest (permissionsIn p n m)) (sym (row-end viewPermission (t .rows) (t .count) (t .count) (omega arith))),
+      )
 
   -- it is the object's: what the rest makes of it and of those behind is what another makes of those behind
   pub gather-row : (rest′ : List things.Permission → A) → (eqb (getD (t .rows) i noPermission .name) n && q) ≡ true
@@ -50,6 +54,6 @@ module _ {A : Type 0} {whole : A} (rest : List things.Permission → A) (p : Add
       let k = g .0 in (
         omega arith,
         g .1 ∙ ap (λ m. rest (permissionsIn p n m)) (held-next _ _ _ _ _ _ (permissions-held t h) viewPermission i noPermission c) ∙ ap rest (permissions-row p n x l)
-        ∙ ap (λ b. rest (push (pick b (some (x .1 .1)) none) (permissionsIn p n l))) (ap (λ b. eqb (x .1 .0) n && b) (sym e) ∙ f)
-        ∙ turn (permissionsIn p n l),
+            ∙ ap (λ b. rest (push (pick b (some (x .1 .1)) none) (permissionsIn p n l))) (ap (λ b. eqb (x .1 .0) n && b) (sym e) ∙ f)
+            ∙ turn (permissionsIn p n l),
       )

@@ -12,7 +12,7 @@ use Rattle.grants.specs.declared.Decision.{Decision}
 use Rattle.grants.specs.declared.Decision.the-variants.{Denied, Granted}
 use Rattle.grants.specs.declared.Walk.{Walk}
 use Rattle.grants.specs.declared.Weights.{Weights}
-use Rattle.grants.specs.View.{decisionOf, viewDecision, firstOf, walkOf, weightsOf}
+use Rattle.grants.specs.View.{decisionOf, viewDecision, firstOf}
 
 -- ---- decisions and what they mean
 pub decision-there : (d : Decision) → decisionOf (viewDecision d) ≡ d
@@ -82,5 +82,5 @@ pub weights-next : (held covered clashing : Bool) {a b c : Bool} (s : model.Subj
     → (l : List Permission) → weightsFrom held covered clashing s g (h ∷ l) ≡ weightsFrom (held || a) (covered || b) (clashing || c) s g l
 weights-next held covered clashing s g h e f k l =
     λ i. weights ((or-next held (samePermission g h) (holds g l) ∙ ap (λ x. (held || x) || holds g l) (sym e)) i)
-        ((or-next covered (model.covers s g h) (model.coverAny s g l) ∙ ap (λ x. (covered || x) || model.coverAny s g l) (sym f)) i)
-        ((or-next clashing (model.clash g h) (model.clashAny g l) ∙ ap (λ x. (clashing || x) || model.clashAny g l) (sym k)) i)
+    ((or-next covered (model.covers s g h) (model.coverAny s g l) ∙ ap (λ x. (covered || x) || model.coverAny s g l) (sym f)) i)
+    ((or-next clashing (model.clash g h) (model.clashAny g l) ∙ ap (λ x. (clashing || x) || model.clashAny g l) (sym k)) i)

@@ -155,10 +155,14 @@ pub fn walked(t: Permissions, p: Path, name: u16, s: Subject) -> Walk
             delegate = first_of(delegate, given(s, 4, g));
             i += 1;
         } else {
-            return Walk { read: read, change: change, delegate: delegate };
+            i = n;
         }
     }
-    Walk { read: read, change: change, delegate: delegate }
+    Walk {
+        read: read,
+        change: change,
+        delegate: delegate,
+    }
 }
 
 // Of the object's permissions against g: whether one is g itself, one covers it for the subject, one clashes with it.
@@ -196,10 +200,14 @@ pub fn weighed(t: Permissions, p: Path, name: u16, s: Subject, g: Grant) -> Weig
             clashing = clashing | clash(g, h);
             i += 1;
         } else {
-            return Weights { held: held, covered: covered, clashing: clashing };
+            i = n;
         }
     }
-    Weights { held: held, covered: covered, clashing: clashing }
+    Weights {
+        held: held,
+        covered: covered,
+        clashing: clashing,
+    }
 }
 
 // Whether a permission of the object clashes with g.

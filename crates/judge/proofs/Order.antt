@@ -74,10 +74,10 @@ on-seen d c signed entries q operands =
     let t : Standing = record { signed = signed; entries = entries } in
     let may = decision-seen (granted r f) in
     (λ i. judgedOf
-      (firstThat
-      ((2, atRoot r) ∷ (3, absent-seen d q i) ∷ (4, taken-seen d q i) ∷ (5, wrongClipboard r (viewCache c)) ∷ (6, missing (may i)) ∷ (7, uncovered-seen d q i) ∷ (8, clashing-seen d q i)
-      ∷ (shelves (totals-seen d q (viewCache c) i) ++ provided (provisions (may i)) t)))
-      (may i))
+    (firstThat
+    ((2, atRoot r) ∷ (3, absent-seen d q i) ∷ (4, taken-seen d q i) ∷ (5, wrongClipboard r (viewCache c)) ∷ (6, missing (may i)) ∷ (7, uncovered-seen d q i) ∷ (8, clashing-seen d q i)
+    ∷ (shelves (totals-seen d q (viewCache c) i) ++ provided (provisions (may i)) t)))
+    (may i))
     ∙ sym (ap (λ o. judgedOf o (granted r f)) (skip (badOperand r) _ _ operands))
 
 module _ (s : Seen) (c : Cache) (signed entries : ℕ) (q : Placed) where

@@ -2,7 +2,7 @@
 use mathlib.Core.Path.{_≡_}
 use mathlib.Core.Bool.{false}
 use mathlib.Core.Option.{Option, none, some}
-use mathlib.Core.List.{List, [], _∷_, _++_}
+use mathlib.Core.List.{List, _∷_, _++_}
 use Prim.Native.Nat.{ℕ}
 use Rattle.model.specs.Decide.{Provisions}
 use Rattle.model.specs.Refusals.{Request, Standing, atRoot, wrongClipboard, missing, provisions, granted, shelves, provided, firstThat, refusal}

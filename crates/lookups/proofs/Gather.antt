@@ -34,9 +34,14 @@ gather-end rest p t i g c = sym (g .1 ∙ ap (λ m. rest (move (at p) m)) (row-e
 -- row i is there: q says whether its path is p
 module _ {A : Type 0} {whole : A} (rest : List things.Attribute → A) (p : Address) (t : Attributes) (i : ℕ) (g : Gathers whole rest p t i) (h : AttributesSound t) (c : i < t .count)
     {q : Bool} (e : q ≡ same (steps (getD (t .rows) i noAttribute .path)) p) where
-  -- it is another node's: no more of the node's follow
-  pub gather-other : q ≡ false → rest [] ≡ whole
-  gather-other f = sym (g .1 ∙ rows-other (attributes-by-path h) p (at-path p rest) i noAttribute (g .0) c (sym e ∙ f))
+  -- it is another node's: no more of the node's follow, as none follow at the end
+  pub gather-other : q ≡ false → Gathers whole rest p t (t .count)
+  gather-other f =
+      let k = g .0 in (
+        omega arith,
+        g .1 ∙ rows-other (attributes-by-path h) p (at-path p rest) i noAttribute (g .0) c (sym e ∙ f)
+            ∙ ap (λ m. rest (move (at p) m)) (sym (row-end viewAttribute (t .rows) (t .count) (t .count) (omega arith))),
+      )
 
   -- it is the node's: what the rest makes of it and of those behind is what another makes of those behind
   pub gather-row : (rest′ : List things.Attribute → A) → q ≡ true
@@ -47,6 +52,6 @@ module _ {A : Type 0} {whole : A} (rest : List things.Attribute → A) (p : Addr
       let k = g .0 in (
         omega arith,
         g .1 ∙ ap (λ m. rest (move (at p) m)) (held-next _ _ _ _ _ _ (attributes-held t h) viewAttribute i noAttribute c)
-        ∙ ap (λ b. rest (push (pick b (some (x .1)) none) (move (at p) l))) (sym e ∙ f)
-        ∙ turn (move (at p) l),
+            ∙ ap (λ b. rest (push (pick b (some (x .1)) none) (move (at p) l))) (sym e ∙ f)
+            ∙ turn (move (at p) l),
       )

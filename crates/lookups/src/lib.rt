@@ -214,8 +214,11 @@ pub fn held_at(t: Attributes, p: Path, name: u16) -> Held
             names += 1;
             i += 1;
         } else {
-            return Held { found: found, names: names };
+            i = n;
         }
     }
-    Held { found: found, names: names }
+    Held {
+        found: found,
+        names: names,
+    }
 }

@@ -13,15 +13,14 @@ use Rattle.laws.specs.Slots.{pick}
 use Rattle.path.specs.Address.{Address, parent, last}
 use Rattle.path.specs.View.{steps}
 use Rattle.path.proofs.Structs.{no}
-use Rattle.model.specs.Decide.{Object, coverAny, clashAny}
-use Rattle.model.specs.Moves.{ownerIn, attributeIn, permissionsIn, nodeAt, attributeObject, objectAt, namesIn}
+use Rattle.model.specs.Decide.{Object}
+use Rattle.model.specs.Moves.{permissionsIn, nodeAt, attributeObject, namesIn}
 use Rattle.model.specs.Refusals as refusals
-use Rattle.model.specs.Refusals.{Request, Cached, Totals, among, missing, permissionsOf, withRows}
+use Rattle.model.specs.Refusals.{Request, Cached, among, missing, permissionsOf, withRows}
 use Rattle.tables.specs.declared.Dossier.{Dossier}
-use Rattle.tables.specs.declared.Owner.{Owner}
 use Rattle.tables.specs.declared.Found.the-variants.{Absent}
-use Rattle.tables.specs.View.{ownerOf, foundOf, viewNodes, viewAttributes, viewPermissions, viewDossier, DossierFits}
-use Rattle.grants.specs.View.{decisionOf, weightsOf}
+use Rattle.tables.specs.View.{viewAttributes, viewPermissions, viewDossier, DossierFits}
+use Rattle.grants.specs.View.{weightsOf}
 use Rattle.lookups.specs.declared.Held.{Held}
 use Rattle.lookups.specs.View.{heldIn}
 use Rattle.decide.specs.View.{objectOwned, foundOwner, needed, foundBy}
@@ -29,7 +28,7 @@ use Rattle.decide.proofs.Objects.{node-owned, attribute-owned}
 use Rattle.refusals.specs.declared.Placed.{Placed}
 use Rattle.refusals.specs.View.{viewPlaced}
 use Rattle.refusals.specs.Parts.{foundFor, objectOf}
-use Rattle.refusals.specs.Look.{bare, weighing, heldFor, weightsFor, seenOf, SeenSound, ownerless, unfound, absentIn, takenIn, uncoveredIn, clashingIn, roomIn}
+use Rattle.refusals.specs.Look.{bare, weighing, weightsFor, seenOf, SeenSound, ownerless, unfound, absentIn, takenIn, uncoveredIn, clashingIn, roomIn}
 use Rattle.refusals.proofs.Objects.{node-missing, attribute-missing, held-in, children-few, names-few, nodes-size, nodes-room, attributes-size, attributes-room, permissions-size, permissions-room}
 
 -- ---- numbers of a row
@@ -100,7 +99,7 @@ module _ (d : Dossier) (q : Placed) where
     where
       go : (b : Bool) → among (q .number) bare ≡ b
           → refusals.granted r (needed (objectOwned (seenOf d q .node) (permissionsIn at 0 (viewPermissions (d .permissions)))) (objectOwned (seenOf d q .parent) (permissionsIn (parent at) 0 (viewPermissions (d .permissions))))
-              (objectOwned (foundOwner (held-if b .found)) (permissionsIn at (q .name) (viewPermissions (d .permissions)))))
+          (objectOwned (foundOwner (held-if b .found)) (permissionsIn at (q .name) (viewPermissions (d .permissions)))))
           ≡ refusals.granted r (foundFor d q)
       go true e =
           (λ i. refusals.granted r (needed (node-owned at (viewDossier d) i) (node-owned (parent at) (viewDossier d) i) none))

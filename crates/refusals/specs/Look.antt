@@ -7,7 +7,6 @@ use lib.Dec.{eqb, ltb}
 use lib.ListN.{length, replicate}
 use Rattle.laws.specs.Slots.{pick}
 use Rattle.path.specs.Address.{Address, parent, last}
-use Rattle.path.specs.View.{steps}
 use Rattle.model.specs.Things.{Row, Attribute}
 use Rattle.model.specs.Decide.{Object}
 use Rattle.model.specs.Moves.{ownerIn, childrenIn}

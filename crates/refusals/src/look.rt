@@ -47,7 +47,11 @@ fn around_at(t: Nodes, p: Path) -> Around
     let node = owner_in(t, p);
     let parent = owner_in(t, above);
     let siblings = children_in(t, above);
-    Around { node: node, parent: parent, siblings: siblings }
+    Around {
+        node: node,
+        parent: parent,
+        siblings: siblings,
+    }
 }
 
 // Requests 1, 3 to 7 and 17 don't look at attributes.
@@ -56,9 +60,13 @@ fn held_for(t: Attributes, q: Placed) -> Held
     ensures { λ h. ⌜ h ≡ heldFor (viewPlaced q) (viewAttributes t) ⌝ }
 {
     let n = q.number;
-    let bare = (n == 1) | ((n == 3) | ((n == 4) | ((n == 5) | ((n == 6) | ((n == 7) | (n == 17))))));
+    let bare = (n == 1)
+        | ((n == 3) | ((n == 4) | ((n == 5) | ((n == 6) | ((n == 7) | (n == 17))))));
     if bare {
-        return Held { found: Found::Absent, names: 0 };
+        return Held {
+            found: Found::Absent,
+            names: 0,
+        };
     }
     held_at(t, q.path, q.name)
 }
@@ -66,7 +74,11 @@ fn held_for(t: Attributes, q: Placed) -> Held
 fn subject_of(q: Placed) -> Subject
     ensures { λ s. ⌜ viewSubject s ≡ refusals.subject (viewPlaced q) ⌝ }
 {
-    Subject { role: q.role, user: q.user, time: q.time }
+    Subject {
+        role: q.role,
+        user: q.user,
+        time: q.time,
+    }
 }
 
 fn granted_to(t: Permissions, q: Placed, o: Owners) -> Decision
@@ -75,7 +87,12 @@ fn granted_to(t: Permissions, q: Placed, o: Owners) -> Decision
 {
     let s = subject_of(q);
     let p = q.path;
-    let a = Asked { number: q.number, subject: s, path: p, name: q.name };
+    let a = Asked {
+        number: q.number,
+        subject: s,
+        path: p,
+        name: q.name,
+    };
     rights(a, o, t)
 }
 
@@ -88,14 +105,22 @@ fn weights_for(t: Permissions, q: Placed, o: Owner) -> Weights
     if (n == 14) | ((n == 15) | (n == 16)) {
         match o {
             Owner::Nobody => {
-                return Weights { held: false, covered: false, clashing: false };
+                return Weights {
+                    held: false,
+                    covered: false,
+                    clashing: false,
+                };
             }
             Owner::User(_) => {
                 return weighed(t, q.path, q.name, subject_of(q), q.permission);
             }
         }
     }
-    Weights { held: false, covered: false, clashing: false }
+    Weights {
+        held: false,
+        covered: false,
+        clashing: false,
+    }
 }
 
 pub fn looked(d: Dossier, q: Placed) -> Seen
@@ -107,7 +132,11 @@ pub fn looked(d: Dossier, q: Placed) -> Seen
     let node = a.node;
     let parent = a.parent;
     let found = h.found;
-    let o = Owners { node: node, parent: parent, attribute: owner_found(found) };
+    let o = Owners {
+        node: node,
+        parent: parent,
+        attribute: owner_found(found),
+    };
     let object = object_owner(o, q.name);
     let may = granted_to(d.permissions, q, o);
     let w = weights_for(d.permissions, q, object);

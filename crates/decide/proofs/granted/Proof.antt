@@ -1,5 +1,4 @@
 -- `decide::granted` meets its contract: the owners, and what the permissions give then. Assumes nothing.
-use borrow.Author.Needs.{needs}
 use mathlib.Core.Path.{ap, _∙_}
 use Rattle.path.specs.Address.{parent}
 use Rattle.path.specs.View.{steps}

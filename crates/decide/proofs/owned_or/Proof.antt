@@ -1,8 +1,7 @@
 -- `decide::owned_or` meets its contract: nothing on what nobody owns, all to the owner. Assumes nothing.
 use borrow.Author.Needs.{needs}
 use borrow.Author.Tests.{eq-eqb, ne-eqb}
-use mathlib.Core.Path.{_≡_, sym, ap, _∙_}
-use lib.Dec.{eqb}
+use mathlib.Core.Path.{sym, ap, _∙_}
 use Rattle.laws.specs.Slots.{pick}
 use Rattle.grants.specs.declared.Decision.the-variants.{Granted}
 use Rattle.decide.specs.View.{ownedOr}

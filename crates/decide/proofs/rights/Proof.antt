@@ -2,7 +2,7 @@
 use borrow.Author.Needs.{needs}
 use borrow.Author.Tests.{ne-eqb, eqb-true}
 use borrow.Table.Steps.{cases}
-use mathlib.Core.Path.{_≡_, refl, sym, ap, _∙_}
+use mathlib.Core.Path.{_≡_, refl, ap, _∙_}
 use mathlib.Core.Logic.{inl, inr, ⊎-elim}
 use mathlib.Core.Bool.{Bool, true, false}
 use mathlib.Core.List.{List}
@@ -118,8 +118,8 @@ module _ (b : tie.After-change-given) where
   hands h =
       h ∙ ap (λ o. thereOr o (decisionOf (model.matched asker 4 (permissionsIn at called rows)))) object
       ∙ cases (eqb called 0)
-        (λ e. rw e (ap (λ n. thereOr (start .args .o .node) (decisionOf (model.matched asker 4 (permissionsIn at n rows)))) (eqb-true called 0 e) ∙ there-given (model.matched asker 4) (start .args .o .node) (permissionsIn at 0 rows)))
-        (λ e. rw e (there-given (model.matched asker 4) (start .args .o .attribute) (permissionsIn at called rows)))
+      (λ e. rw e (ap (λ n. thereOr (start .args .o .node) (decisionOf (model.matched asker 4 (permissionsIn at n rows)))) (eqb-true called 0 e) ∙ there-given (model.matched asker 4) (start .args .o .node) (permissionsIn at 0 rows)))
+      (λ e. rw e (there-given (model.matched asker 4) (start .args .o .attribute) (permissionsIn at called rows)))
 
   abbrev node : Owner
   node = start .args .o .node

@@ -136,8 +136,8 @@ loop2-again c =
     let l = r .before .before .before .before .loop2 in
     let a = viewSubject (s .args .s) in
     let next =
-        walk-next (l .read) (l .change) (l .delegate) a (viewGrant (getD (s .args .t1 .rows) (l .i) noPermission .grant))
-        (first .before .given .ensures) (first .first-of .ensures) (second .before .given2 .ensures) (second .first-of2 .ensures) (c .before .given3 .ensures) (c .first-of3 .ensures)
+    walk-next (l .read) (l .change) (l .delegate) a (viewGrant (getD (s .args .t1 .rows) (l .i) noPermission .grant))
+    (first .before .given .ensures) (first .first-of .ensures) (second .before .given2 .ensures) (second .first-of2 .ensures) (c .before .given3 .ensures) (c .first-of3 .ensures)
     in (
       search needs,
       search needs,
@@ -145,17 +145,19 @@ loop2-again c =
           (walkFrom (first .first-of .result) (second .first-of2 .result) (c .first-of3 .result) a) (first .before .before .before .if2 .taken) next,
     )
 
-returns : tie.Need-returns Inv-loop μ-loop Inv-loop2 μ-loop2
-returns c =
+loop2-less-2 : tie.Need-loop2-less-2 Inv-loop μ-loop Inv-loop2 μ-loop2
+loop2-less-2 c = search needs
+
+loop2-again-2 : tie.Need-loop2-again-2 Inv-loop μ-loop Inv-loop2 μ-loop2
+loop2-again-2 c =
     let r = c .before in
     let s = r .before .before .before .before .before .before .before in
     let l = r .before .before .before .before .loop2 in
     let a = viewSubject (s .args .s) in
-    walk-end (l .read) (l .change) (l .delegate) a
-    ∙ gather-other (walkFrom (l .read) (l .change) (l .delegate) a) _ _ _ (l .i) (l .inv .2) (s .pre .0) (r .before .before .before .loop2-test .taken) (r .is-same .ensures) (c .if2 .left)
+    (search needs, search needs, gather-other (walkFrom (l .read) (l .change) (l .delegate) a) _ _ _ (l .i) (l .inv .2) (s .pre .0) (r .before .before .before .loop2-test .taken) (r .is-same .ensures) (c .if2 .left))
 
-returns-2 : tie.Need-returns-2 Inv-loop μ-loop Inv-loop2 μ-loop2
-returns-2 c =
+returns : tie.Need-returns Inv-loop μ-loop Inv-loop2 μ-loop2
+returns c =
     let s = c .before .before .before .before in
     let l = c .before .loop2 in
     let a = viewSubject (s .args .s) in
@@ -193,5 +195,6 @@ walked-spec =
     add-i-2
     loop2-less
     loop2-again
-    returns
-    returns-2)
+    loop2-less-2
+    loop2-again-2
+    returns)

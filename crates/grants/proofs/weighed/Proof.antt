@@ -133,18 +133,20 @@ loop2-again c =
           (weightsFrom (l .held || x .same-grant .result) (l .covered || c .before .covers .result) (l .clashing || c .clash .result) a g) (x .before .before .if2 .taken) next,
     )
 
-returns : tie.Need-returns Inv-loop μ-loop Inv-loop2 μ-loop2
-returns c =
+loop2-less-2 : tie.Need-loop2-less-2 Inv-loop μ-loop Inv-loop2 μ-loop2
+loop2-less-2 c = search needs
+
+loop2-again-2 : tie.Need-loop2-again-2 Inv-loop μ-loop Inv-loop2 μ-loop2
+loop2-again-2 c =
     let r = c .before in
     let s = r .before .before .before .before .before .before .before in
     let l = r .before .before .before .before .loop2 in
     let a = viewSubject (s .args .s) in
     let g = viewGrant (s .args .g) in
-    weights-end (l .held) (l .covered) (l .clashing) a g
-    ∙ gather-other (weightsFrom (l .held) (l .covered) (l .clashing) a g) _ _ _ (l .i) (l .inv .2) (s .pre .0) (r .before .before .before .loop2-test .taken) (r .is-same .ensures) (c .if2 .left)
+    (search needs, search needs, gather-other (weightsFrom (l .held) (l .covered) (l .clashing) a g) _ _ _ (l .i) (l .inv .2) (s .pre .0) (r .before .before .before .loop2-test .taken) (r .is-same .ensures) (c .if2 .left))
 
-returns-2 : tie.Need-returns-2 Inv-loop μ-loop Inv-loop2 μ-loop2
-returns-2 c =
+returns : tie.Need-returns Inv-loop μ-loop Inv-loop2 μ-loop2
+returns c =
     let s = c .before .before .before .before in
     let l = c .before .loop2 in
     let a = viewSubject (s .args .s) in
@@ -180,5 +182,6 @@ weighed-spec =
     add-i-2
     loop2-less
     loop2-again
-    returns
-    returns-2)
+    loop2-less-2
+    loop2-again-2
+    returns)

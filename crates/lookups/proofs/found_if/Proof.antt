@@ -1,6 +1,6 @@
 -- `lookups::found_if` meets its contract. Assumes nothing.
 use borrow.Author.Tests.{eq-eqb, ne-eqb}
-use mathlib.Core.Path.{_≡_, sym, ap, _∙_}
+use mathlib.Core.Path.{sym, ap, _∙_}
 use mathlib.Core.Option.{none, some}
 use Rattle.laws.specs.Slots.{pick}
 use Rattle.tables.specs.declared.Found.the-variants.{Present}

@@ -133,15 +133,17 @@ loop2-again c =
           (heldFrom (c .first-found .result) (l .names + 1) n) (w .if2 .taken) next,
     )
 
-returns : tie.Need-returns Inv-loop μ-loop Inv-loop2 μ-loop2
-returns c =
+loop2-less-2 : tie.Need-loop2-less-2 Inv-loop μ-loop Inv-loop2 μ-loop2
+loop2-less-2 c = search needs
+
+loop2-again-2 : tie.Need-loop2-again-2 Inv-loop μ-loop Inv-loop2 μ-loop2
+loop2-again-2 c =
     let s = c .before .before .before .before .before .before .before in
     let l = c .before .before .before .before .loop2 in
-    held-end (l .found) (l .names) (s .args .name)
-    ∙ gather-other (heldFrom (l .found) (l .names) (s .args .name)) _ _ (l .i) (l .inv .3) (s .pre .0) (c .before .before .before .loop2-test .taken) (c .before .is-same .ensures) (c .if2 .left)
+    (search needs, search needs, search needs, gather-other (heldFrom (l .found) (l .names) (s .args .name)) _ _ (l .i) (l .inv .3) (s .pre .0) (c .before .before .before .loop2-test .taken) (c .before .is-same .ensures) (c .if2 .left))
 
-returns-2 : tie.Need-returns-2 Inv-loop μ-loop Inv-loop2 μ-loop2
-returns-2 c =
+returns : tie.Need-returns Inv-loop μ-loop Inv-loop2 μ-loop2
+returns c =
     let s = c .before .before .before .before in
     let l = c .before .loop2 in
     held-end (l .found) (l .names) (s .args .name) ∙ gather-end (heldFrom (l .found) (l .names) (s .args .name)) _ _ (l .i) (l .inv .3) (c .loop2-test .left)
@@ -175,5 +177,6 @@ held-at-spec =
     add-i-2
     loop2-less
     loop2-again
-    returns
-    returns-2)
+    loop2-less-2
+    loop2-again-2
+    returns)

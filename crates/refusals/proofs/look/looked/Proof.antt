@@ -1,21 +1,19 @@
 -- `refusals::look::looked` meets its contract: each part by the function that finds it. Assumes nothing.
 use borrow.Author.Needs.{needs}
-use mathlib.Core.Path.{_≡_, ap, _∙_}
+use mathlib.Core.Path.{ap, _∙_}
 use Rattle.path.specs.View.{steps}
 use Rattle.model.specs.Moves.{permissionsIn}
 use Rattle.model.specs.Refusals as refusals
 use Rattle.tables.specs.declared.Owner.{Owner}
-use Rattle.tables.specs.declared.Found.{Found}
 use Rattle.tables.specs.View.{viewPermissions}
 use Rattle.tables.proofs.Parts.{nodes-sound, attributes-sound, permissions-sound}
-use Rattle.grants.specs.declared.Weights.{Weights}
 use Rattle.grants.specs.View.{decisionOf}
 use Rattle.lookups.specs.declared.Held.{Held}
 use Rattle.decide.specs.declared.Owners.{Owners}
 use Rattle.decide.specs.View.{foundOwner, objectOwned, foundBy}
 use Rattle.refusals.specs.declared.look.Around.{Around}
 use Rattle.refusals.specs.View.{viewPlaced}
-use Rattle.refusals.specs.Look.{weightsFor, seenOf}
+use Rattle.refusals.specs.Look.{weightsFor}
 use Rattle.refusals.proofs.Objects.{nodes-size, attributes-size, permissions-size}
 use Rattle.refusals.proofs.Looked.{granted-seen, weights-seen}
 use Rattle.laws.specs.Slots.{pick}

@@ -1,5 +1,4 @@
 -- `refusals::room::children_full` meets its contract: only a branch adds a child. Assumes nothing.
-use Prim.Native.Nat.{_+_}
 use Rattle.operands.proofs.Numbers.{one, or}
 use Rattle.refusals.proofs.Totals.{no-branch}
 use Rattle.refusals.proofs.room.children_full.Statement.{statement}

@@ -1,5 +1,4 @@
 -- `refusals::room::nodes_full` meets its contract: only a branch adds nodes. Assumes nothing.
-use Prim.Native.Nat.{_+_}
 use mathlib.Core.Logic.{inl, inr}
 use Rattle.operands.proofs.Numbers.{one, or}
 use Rattle.refusals.proofs.Totals.{no-branch}
@@ -10,7 +9,7 @@ use Rattle.refusals.specs.View.{viewPlaced, viewCache}
 use Rattle.model.specs.Refusals as refusals
 use borrow.Author.Needs.{needs}
 use mathlib.Core.Bool.{Bool}
-use mathlib.Core.Path.{refl, sym, ap, _∙_}
+use mathlib.Core.Path.{refl, sym}
 
 -- the rule, of a request with another number
 abbrev rule : tie.Start → refusals.Request → Bool

@@ -1,5 +1,4 @@
 -- `refusals::room::permissions_full` meets its contract: a dossier without more permissions is not full. Assumes nothing.
-use Prim.Native.Nat.{_+_}
 use Rattle.operands.proofs.Numbers.{one, or}
 use Rattle.refusals.proofs.Totals.{no-permissions}
 use Rattle.refusals.proofs.room.permissions_full.Statement.{statement}
@@ -10,7 +9,7 @@ use Rattle.model.specs.Refusals as refusals
 use borrow.Author.Needs.{needs}
 use mathlib.Core.Bool.{Bool}
 use mathlib.Core.Logic.{inl, inr}
-use mathlib.Core.Path.{sym, ap, _∙_}
+use mathlib.Core.Path.{sym}
 
 -- the rule, of a request with another number
 abbrev rule : tie.Start → refusals.Request → Bool
