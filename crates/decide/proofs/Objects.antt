@@ -2,16 +2,14 @@
 use borrow.Author.Tests.{eq-eqb, ne-eqb, eqb-true}
 use borrow.Table.Steps.{cases}
 use mathlib.Core.Path.{_≡_, refl, sym, ap, ap₂, subst, _∙_}
+use mathlib.Core.Bool.{Bool, true, false}
 use mathlib.Core.Option.{Option, none, some, Option·map}
 use mathlib.Core.List.{List}
 use Prim.Native.Nat.{ℕ}
 use native.Mathlib.Omega.{arith}
 use lib.Dec.{eqb}
 use Rattle.laws.specs.Slots.{pick}
-use Rattle.path.specs.declared.Path.{Path}
-use Rattle.path.specs.Address.{Address, parent}
-use Rattle.path.specs.View.{steps, pathOf}
-use Rattle.path.proofs.Structs.{view-path}
+use Rattle.path.specs.Address.{Address}
 use Rattle.model.specs.Things.{Attribute, Permission, Dossier}
 use Rattle.model.specs.Decide.{Object, Provisions, nothing, given, joined}
 use Rattle.model.specs.Moves.{ownerIn, permissionsIn, attributeIn, nodeAt, attributeObject, objectAt}
@@ -24,7 +22,7 @@ use Rattle.tables.specs.View.{ownerOf, foundOf}
 use Rattle.grants.specs.declared.Decision.{Decision}
 use Rattle.grants.specs.declared.Decision.the-variants.{Denied, Granted}
 use Rattle.grants.specs.View.{decisionOf, viewDecision}
-use Rattle.decide.specs.View.{objectOwner}
+use Rattle.decide.specs.View.{objectOwner, foundOwner, objectOwned, ownedOr, thereOr}
 
 -- nobody is no user: whoever owns is not nobody, whatever number stands in a blank row
 pub nobody-no-user : {u : ℕ} → Nobody ≡ User u → ⊥
@@ -59,11 +57,6 @@ node-owner p d = go (ownerIn p (d .nodes))
     go : (o : Option ℕ) → ownerOf o ≡ objectOwner (Option·map (λ u. record { owner = u; permissions = permissionsIn p 0 (d .permissions) }) o)
     go none = refl
     go (some u) = refl
-
--- an attribute's owner, of what a lookup answers
-abbrev pub foundOwner : Found → Owner
-foundOwner Absent = Nobody
-foundOwner (Present u v) = User u
 
 attribute-owner : (p : Address) (n : ℕ) (d : Dossier) → foundOwner (foundOf (attributeIn p n (d .attributes))) ≡ objectOwner (attributeObject p n d)
 attribute-owner p n d = go (attributeIn p n (d .attributes))
@@ -130,7 +123,31 @@ decision-seen (some x) = refl
 pub both-joined : {a b r : Decision} (x y : Option Provisions) → r ≡ decisionOf (joined (viewDecision a) (viewDecision b)) → a ≡ decisionOf x → b ≡ decisionOf y → r ≡ decisionOf (joined x y)
 both-joined x y e h k = e ∙ ap₂ (λ v w. decisionOf (joined v w)) (ap viewDecision h ∙ decision-seen x) (ap viewDecision k ∙ decision-seen y)
 
--- ---- the node above
-pub on-parent : (f : Object → Option Provisions) (p : Path) (d : Dossier) {q : Path} {r : Decision} → q ≡ pathOf (parent (steps p))
-    → r ≡ decisionOf (given f (nodeAt (steps q) d)) → r ≡ decisionOf (given f (nodeAt (parent (steps p)) d))
-on-parent f p d e h = h ∙ ap (λ l. decisionOf (given f (nodeAt l d))) (ap steps e ∙ view-path (parent (steps p)))
+-- ---- objects from their owners
+pub node-owned : (p : Address) (d : Dossier) → objectOwned (ownerOf (ownerIn p (d .nodes))) (permissionsIn p 0 (d .permissions)) ≡ nodeAt p d
+node-owned p d = go (ownerIn p (d .nodes))
+  where
+    go : (o : Option ℕ) → objectOwned (ownerOf o) (permissionsIn p 0 (d .permissions)) ≡ Option·map (λ u. record { owner = u; permissions = permissionsIn p 0 (d .permissions) }) o
+    go none = refl
+    go (some u) = refl
+
+pub attribute-owned : (p : Address) (n : ℕ) (d : Dossier) → objectOwned (foundOwner (foundOf (attributeIn p n (d .attributes)))) (permissionsIn p n (d .permissions)) ≡ attributeObject p n d
+attribute-owned p n d = go (attributeIn p n (d .attributes))
+  where
+    go : (o : Option Attribute) → objectOwned (foundOwner (foundOf o)) (permissionsIn p n (d .permissions)) ≡ Option·map (λ a. record { owner = a .owner; permissions = permissionsIn p n (d .permissions) }) o
+    go none = refl
+    go (some a) = refl
+
+-- rest is what the permissions give, of an object that its owner may use without
+pub owned-given : (user : ℕ) (rest : List Permission → Option Provisions) (w : Owner) (l : List Permission)
+    → ownedOr w user (decisionOf (rest l)) ≡ decisionOf (given (λ o. pick (eqb user (o .owner)) (some nothing) (rest (o .permissions))) (objectOwned w l))
+owned-given user rest Nobody l = refl
+owned-given user rest (User u) l = go (eqb user u)
+  where
+    go : (b : Bool) → pick b (Granted 0 0) (decisionOf (rest l)) ≡ decisionOf (pick b (some nothing) (rest l))
+    go true = refl
+    go false = refl
+
+pub there-given : (rest : List Permission → Option Provisions) (w : Owner) (l : List Permission) → thereOr w (decisionOf (rest l)) ≡ decisionOf (given (λ o. rest (o .permissions)) (objectOwned w l))
+there-given rest Nobody l = refl
+there-given rest (User u) l = refl

@@ -1,14 +1,16 @@
 // Permissions: one against a subject or another permission, and those of one object.
 ghost use mathlib.Core.Path.{_≡_};
+ghost use mathlib.Core.List.{[], _∷_};
 ghost use Rattle.path.specs.View.{steps, PathSound};
 ghost use Rattle.model.specs.Decide as model;
 ghost use Rattle.model.specs.Moves.{permissionsIn};
 ghost use Rattle.tables.specs.View.{viewGrant, viewPermissions, PermissionsSound};
-ghost use Rattle.grants.specs.View.{viewSubject, decisionOf};
+ghost use Rattle.grants.specs.View.{viewSubject, decisionOf, viewDecision, firstOf, walkOf, weightsOf};
 use path::Path;
 use path::is_same;
 use tables::Grant;
 use tables::Permissions;
+use tables::order::same_grant;
 use tables::place::object_before;
 
 // Who asks, in which role, when.
@@ -97,10 +99,37 @@ pub fn covers(s: Subject, g: Grant, c: Grant) -> bool
 
 // ---- the permissions of one object
 
-// The provisions of the permission that matches.
-pub fn matched(t: Permissions, p: Path, name: u16, s: Subject, action: u8) -> Decision
+// What the object's permissions give the subject, for each action that is granted by one: the first that matches.
+pub struct Walk {
+    pub read: Decision,
+    pub change: Decision,
+    pub delegate: Decision,
+}
+
+// What g gives the subject.
+fn given(s: Subject, action: u8, g: Grant) -> Decision
+    ensures { λ r. ⌜ r ≡ decisionOf (model.matched (viewSubject s) action (viewGrant g ∷ [])) ⌝ }
+{
+    if matches(s, action, g) {
+        return Decision::Granted(g.messages, g.agreements);
+    }
+    Decision::Denied
+}
+
+// What was given before, or else what is given now.
+fn first_of(was: Decision, now: Decision) -> Decision
+    ensures { λ r. ⌜ r ≡ firstOf was (viewDecision now) ⌝ }
+{
+    match was {
+        Decision::Denied => now,
+        Decision::Granted(m, a) => Decision::Granted(m, a),
+    }
+}
+
+// The object's permissions stand together: one walk weighs them for all actions.
+pub fn walked(t: Permissions, p: Path, name: u16, s: Subject) -> Walk
     requires { ⌜ PermissionsSound t × PathSound p ⌝ }
-    ensures { λ r. ⌜ r ≡ decisionOf (model.matched (viewSubject s) action (permissionsIn (steps p) name (viewPermissions t))) ⌝ }
+    ensures { λ r. ⌜ r ≡ walkOf (viewSubject s) (permissionsIn (steps p) name (viewPermissions t)) ⌝ }
 {
     let n = t.count;
     let mut i: usize = 0;
@@ -114,19 +143,71 @@ pub fn matched(t: Permissions, p: Path, name: u16, s: Subject, action: u8) -> De
             hi = mid;
         }
     }
+    let mut read = Decision::Denied;
+    let mut change = Decision::Denied;
+    let mut delegate = Decision::Denied;
     while i < n {
-        let a = t.rows[i];
-        if (a.name == name) & is_same(a.path, p) {
-            let g = a.grant;
-            if matches(s, action, g) {
-                return Decision::Granted(g.messages, g.agreements);
-            }
+        let row = t.rows[i];
+        if (row.name == name) & is_same(row.path, p) {
+            let g = row.grant;
+            read = first_of(read, given(s, 1, g));
+            change = first_of(change, given(s, 2, g));
+            delegate = first_of(delegate, given(s, 4, g));
             i += 1;
         } else {
-            return Decision::Denied;
+            i = n;
         }
     }
-    Decision::Denied
+    Walk {
+        read: read,
+        change: change,
+        delegate: delegate,
+    }
+}
+
+// Of the object's permissions against g: whether one is g itself, one covers it for the subject, one clashes with it.
+pub struct Weights {
+    pub held: bool,
+    pub covered: bool,
+    pub clashing: bool,
+}
+
+pub fn weighed(t: Permissions, p: Path, name: u16, s: Subject, g: Grant) -> Weights
+    requires { ⌜ PermissionsSound t × PathSound p ⌝ }
+    ensures { λ r. ⌜ r ≡ weightsOf (viewSubject s) (viewGrant g) (permissionsIn (steps p) name (viewPermissions t)) ⌝ }
+{
+    let n = t.count;
+    let mut i: usize = 0;
+    let mut hi = n;
+    while i < hi {
+        let mid = i + (hi - i) / 2;
+        let b = t.rows[mid];
+        if object_before(b.path, b.name, p, name) {
+            i = mid + 1;
+        } else {
+            hi = mid;
+        }
+    }
+    let mut held = false;
+    let mut covered = false;
+    let mut clashing = false;
+    while i < n {
+        let one = t.rows[i];
+        if (one.name == name) & is_same(one.path, p) {
+            let h = one.grant;
+            held = held | same_grant(g, h);
+            covered = covered | covers(s, g, h);
+            clashing = clashing | clash(g, h);
+            i += 1;
+        } else {
+            i = n;
+        }
+    }
+    Weights {
+        held: held,
+        covered: covered,
+        clashing: clashing,
+    }
 }
 
 // Whether a permission of the object clashes with g.

@@ -1,25 +1,23 @@
 // The table of refusals: tested in its order, the first that applies is given.
 ghost use mathlib.Core.Path.{_≡_};
-ghost use mathlib.Core.Bool.{false};
 ghost use Prim.Native.Nat.{_≤_};
 ghost use Rattle.path.specs.View.{PathSound};
 ghost use Rattle.model.specs.Refusals as refusals;
 ghost use Rattle.model.specs.Run as run;
 ghost use Rattle.tables.specs.View.{viewDossier, DossierFits};
-ghost use Rattle.grants.specs.View.{viewDecision, decisionOf};
+ghost use Rattle.grants.specs.View.{viewDecision};
 ghost use Rattle.state.specs.View.{viewRequest, viewSignatures};
-ghost use Rattle.refusals.specs.View.{viewPlaced, viewCache, CacheSound};
-ghost use Rattle.refusals.specs.Parts.{foundFor, Passed};
-ghost use Rattle.judge.specs.View.{standingOf, judgedOf, judgement};
+ghost use Rattle.refusals.specs.View.{viewCache, CacheSound};
+ghost use Rattle.refusals.specs.Look.{SeenSound};
+ghost use Rattle.judge.specs.View.{standingOf, judgedOf, judgedIn, Passed};
 use crate::Judged;
-use decide::Asked;
-use decide::granted;
 use grants::Decision;
-use grants::Subject;
 use operands::bad_operand;
 use refusals::Cache;
 use refusals::Placed;
+use refusals::Seen;
 use refusals::Shelf;
+use refusals::look::looked;
 use refusals::place::absent;
 use refusals::place::at_root;
 use refusals::place::placed;
@@ -36,25 +34,6 @@ use state::signatures::signed_by;
 use tables::Dossier;
 
 // ---- 6: what is granted, and with which provisions
-
-fn granted_to(d: Dossier, q: Placed) -> Decision
-    requires { ⌜ DossierFits d × PathSound (q .path) ⌝ }
-    ensures { λ r. ⌜ r ≡ decisionOf (refusals.granted (viewPlaced q) (foundFor d q)) ⌝ }
-{
-    let s = Subject {
-        role: q.role,
-        user: q.user,
-        time: q.time,
-    };
-    let p = q.path;
-    let a = Asked {
-        number: q.number,
-        subject: s,
-        path: p,
-        name: q.name,
-    };
-    granted(a, d)
-}
 
 fn is_denied(may: Decision) -> bool
     ensures { λ b. ⌜ b ≡ refusals.missing (viewDecision may) ⌝ }
@@ -86,21 +65,15 @@ fn agreements_of(may: Decision) -> u32
 // ---- the tests in their order; each answer is asked before, so that the order stands by itself
 
 // 7, 8, the shelves, 10 and 11, of a request that is granted.
-fn judged_granted(
-    d: Dossier,
-    c: Cache,
-    signed: u32,
-    entries: usize,
-    q: Placed,
-    may: Decision,
-) -> Judged
-    requires { ⌜ DossierFits d × CacheSound c × (entries ≤ 256) × PathSound (q .path) × (refusals.badOperand (viewPlaced q) ≡ false) × Passed (viewPlaced q) (foundFor d q) (viewCache c) × (may ≡ decisionOf (refusals.granted (viewPlaced q) (foundFor d q))) ⌝ }
-    ensures { λ j. ⌜ j ≡ judgement d c signed entries q ⌝ }
+fn judged_granted(s: Seen, c: Cache, signed: u32, entries: usize, q: Placed) -> Judged
+    requires { ⌜ SeenSound s × CacheSound c × (entries ≤ 256) × PathSound (q .path) × Passed s c q ⌝ }
+    ensures { λ j. ⌜ j ≡ judgedIn s c signed entries q ⌝ }
 {
+    let may = s.may;
     let messages = messages_of(may);
-    let bare = uncovered(d, q);
-    let clash = clashing(d, q);
-    let shelf = shelf_for(d, c, q);
+    let bare = uncovered(s, q);
+    let clash = clashing(s, q);
+    let shelf = shelf_for(s, c, q);
     let unread = unsigned(agreements_of(may), signed);
     let late = log_full(messages, entries);
     if bare {
@@ -124,15 +97,15 @@ fn judged_granted(
 }
 
 // 2 to 6, of a request whose operands are good.
-fn judged_placed(d: Dossier, c: Cache, signed: u32, entries: usize, q: Placed) -> Judged
-    requires { ⌜ DossierFits d × CacheSound c × (entries ≤ 256) × PathSound (q .path) × (refusals.badOperand (viewPlaced q) ≡ false) ⌝ }
-    ensures { λ j. ⌜ j ≡ judgement d c signed entries q ⌝ }
+fn judged_placed(s: Seen, c: Cache, signed: u32, entries: usize, q: Placed) -> Judged
+    requires { ⌜ SeenSound s × CacheSound c × (entries ≤ 256) × PathSound (q .path) ⌝ }
+    ensures { λ j. ⌜ j ≡ judgedIn s c signed entries q ⌝ }
 {
+    let may = s.may;
     let root = at_root(q);
-    let gone = absent(d, q);
-    let there = taken(d, q);
+    let gone = absent(s, q);
+    let there = taken(s, q);
     let other = wrong_clipboard(c, q);
-    let may = granted_to(d, q);
     let denied = is_denied(may);
     if root {
         return Judged::Refused(2);
@@ -149,9 +122,10 @@ fn judged_placed(d: Dossier, c: Cache, signed: u32, entries: usize, q: Placed) -
     if denied {
         return Judged::Refused(6);
     }
-    judged_granted(d, c, signed, entries, q, may)
+    judged_granted(s, c, signed, entries, q)
 }
 
+// The dossier is looked at once; what is seen of it is all that the tests are handed.
 pub fn judged(d: Dossier, c: Cache, rows: [Agreements; 64], entries: usize, r: Request) -> Judged
     requires { ⌜ DossierFits d × CacheSound c × (entries ≤ 256) ⌝ }
     ensures { λ j. ⌜ j ≡ judgedOf
@@ -162,5 +136,6 @@ pub fn judged(d: Dossier, c: Cache, rows: [Agreements; 64], entries: usize, r: R
         return Judged::Refused(1);
     }
     let signed = signed_by(rows, r.user);
-    judged_placed(d, c, signed, entries, placed(r))
+    let q = placed(r);
+    judged_placed(looked(d, q), c, signed, entries, q)
 }

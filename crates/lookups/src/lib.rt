@@ -3,11 +3,13 @@ ghost use mathlib.Core.Path.{_≡_};
 ghost use Prim.Native.Nat.{_≤_};
 ghost use lib.ListN.{length};
 ghost use Rattle.path.specs.View.{steps, PathSound};
-ghost use Rattle.model.specs.Moves.{ownerIn, attributeIn, permissionsIn, namesIn, holds};
-ghost use Rattle.tables.specs.View.{viewNodes, NodesSound, viewAttributes, AttributesSound, viewPermissions, PermissionsSound, viewGrant, ownerOf, foundOf, namesOf};
+ghost use Rattle.model.specs.Moves.{ownerIn, called, attributeIn, permissionsIn, namesIn, holds};
+ghost use Rattle.tables.specs.View.{viewNodes, NodesSound, viewAttribute, viewAttributes, AttributesSound, viewPermissions, PermissionsSound, viewGrant, ownerOf, foundOf, namesOf};
+ghost use Rattle.lookups.specs.View.{orFound, heldIn};
 use path::Path;
 use path::is_before;
 use path::is_same;
+use tables::Attribute;
 use tables::Attributes;
 use tables::Found;
 use tables::Grant;
@@ -158,4 +160,65 @@ pub fn count_on(t: Attributes, p: Path) -> usize
     found
 }
 
-// ---- bounds, each a test of its own
+// ---- what a request looks at on a node: the attribute of its name, and how many there are
+
+pub struct Held {
+    pub found: Found,
+    pub names: usize,
+}
+
+// The attribute, if its name is the one looked for.
+fn found_if(a: Attribute, name: u16) -> Found
+    ensures { λ r. ⌜ r ≡ foundOf (called name (viewAttribute a .1)) ⌝ }
+{
+    if a.name == name {
+        let v = a.value;
+        return Found::Present(a.owner, v);
+    }
+    Found::Absent
+}
+
+// What was found before, or else what is found now.
+fn first_found(was: Found, now: Found) -> Found
+    ensures { λ r. ⌜ r ≡ orFound was now ⌝ }
+{
+    match was {
+        Found::Absent => now,
+        Found::Present(u, v) => Found::Present(u, v),
+    }
+}
+
+// A node's attributes stand together: one search and one walk over them answer both.
+pub fn held_at(t: Attributes, p: Path, name: u16) -> Held
+    requires { ⌜ AttributesSound t × PathSound p ⌝ }
+    ensures { λ r. ⌜ r ≡ heldIn (steps p) name (viewAttributes t) ⌝ }
+{
+    let n = t.count;
+    let mut i: usize = 0;
+    let mut hi = n;
+    while i < hi {
+        let mid = i + (hi - i) / 2;
+        let b = t.rows[mid];
+        if is_before(b.path, p) {
+            i = mid + 1;
+        } else {
+            hi = mid;
+        }
+    }
+    let mut found = Found::Absent;
+    let mut names: usize = 0;
+    while i < n {
+        let one = t.rows[i];
+        if is_same(one.path, p) {
+            found = first_found(found, found_if(one, name));
+            names += 1;
+            i += 1;
+        } else {
+            i = n;
+        }
+    }
+    Held {
+        found: found,
+        names: names,
+    }
+}

@@ -1,8 +1,6 @@
 -- What lookups answer, and what the model finds. Assumes nothing.
-use borrow.Author.Tests.{eqb-true, ne-eqb}
-use borrow.Table.Steps.{cases}
-use mathlib.Core.Path.{_≡_, refl, sym, ap, _∙_}
-use mathlib.Core.Bool.{Bool, true, false}
+use borrow.Author.Tests.{ne-eqb}
+use mathlib.Core.Path.{_≡_, refl, _∙_}
 use mathlib.Core.Option.{Option, none, some, Option·map}
 use mathlib.Core.List.{List, [], _∷_}
 use Prim.Native.Nat.{ℕ, _≤_}
@@ -14,28 +12,16 @@ use Rattle.laws.specs.Sorted.{push, move}
 use Rattle.path.specs.Address.{Address}
 use Rattle.model.specs.Things.{Attribute, Permission, Dossier}
 use Rattle.model.specs.Decide.{Object}
-use Rattle.model.specs.Moves.{at, ownerIn, attributeIn, permissionsIn, namesIn, childStep, childrenIn, nodeAt, attributeObject, objectAt, holds}
+use Rattle.model.specs.Moves.{at, ownerIn, attributeIn, namesIn, childStep, childrenIn, nodeAt, attributeObject, holds}
 use Rattle.model.specs.Refusals.{isRoot, missing, held, permissionsOf}
 use Rattle.tables.specs.declared.Dossier as tables
-use Rattle.tables.specs.declared.Owner.{Owner}
-use Rattle.tables.specs.declared.Owner.the-variants.{Nobody, User}
-use Rattle.tables.specs.declared.Found.{Found}
-use Rattle.tables.specs.declared.Found.the-variants.{Absent, Present}
 use Rattle.tables.specs.View.{viewNodes, viewAttributes, viewPermissions, DossierFits, ownerOf, foundOf}
 use Rattle.tables.proofs.Parts.{nodes-sound, attributes-sound, permissions-sound}
 use Rattle.tables.proofs.Rows.{nodes-held, attributes-held, permissions-held}
 use Rattle.tables.proofs.Tables.{nodes-count, attributes-count, permissions-count}
-use Rattle.decide.specs.View.{objectOwner}
+use Rattle.refusals.specs.Look.{ownerless, unfound}
 
 -- ---- what is not there
-abbrev pub ownerless : Owner → Bool
-ownerless Nobody = true
-ownerless (User u) = false
-
-abbrev pub unfound : Found → Bool
-unfound Absent = true
-unfound (Present u v) = false
-
 missing-map : {A : Type 0} (f : A → Object) (o : Option A) → missing o ≡ missing (Option·map f o)
 missing-map f none = refl
 missing-map f (some a) = refl
@@ -54,29 +40,7 @@ attribute-missing p n d = go (attributeIn p n (d .attributes)) ∙ missing-map _
     go none = refl
     go (some a) = refl
 
-pub object-missing : (o : Option Object) → ownerless (objectOwner o) ≡ missing o
-object-missing none = refl
-object-missing (some o) = refl
-
 -- ---- the permissions of an object
-nobody-no-user : {u : ℕ} {A : Type 0} → Nobody ≡ User u → A
-nobody-no-user e = let z : _≡_ {A = ℕ} 0 1 = cc in absurd (omega arith)
-
-pub of-nobody : (o : Option Object) → Nobody ≡ objectOwner o → permissionsOf o ≡ []
-of-nobody none e = refl
-of-nobody (some o) e = nobody-no-user e
-
-of-mapped : {A : Type 0} (owner : A → ℕ) (l : List Permission) (o : Option A) {u : ℕ}
-    → User u ≡ objectOwner (Option·map (λ a. record { owner = owner a; permissions = l }) o) → permissionsOf (Option·map (λ a. record { owner = owner a; permissions = l }) o) ≡ l
-of-mapped owner l none e = nobody-no-user (sym e)
-of-mapped owner l (some a) e = refl
-
-pub of-user : (p : Address) (n : ℕ) (d : Dossier) {u : ℕ} → User u ≡ objectOwner (objectAt p n d) → permissionsOf (objectAt p n d) ≡ permissionsIn p n (d .permissions)
-of-user p n d {u} =
-    cases (eqb n 0)
-    (λ e. rw e (λ h. of-mapped (λ u. u) _ (ownerIn p (d .nodes)) h ∙ ap (λ k. permissionsIn p k (d .permissions)) (sym (eqb-true n 0 e))))
-    (λ e. rw e (of-mapped (λ a. a .owner) _ (attributeIn p n (d .attributes))))
-
 pub held-in : (g : Permission) (o : Option Object) → holds g (permissionsOf o) ≡ held g o
 held-in g none = refl
 held-in g (some o) = refl

@@ -4,11 +4,15 @@ ghost use Rattle.model.specs.Run as run;
 ghost use Rattle.tables.specs.View.{viewClipboard, ClipboardSound};
 ghost use Rattle.refusals.specs.View.{viewCache, CacheSound};
 use counts::deepest_in;
+use grants::Decision;
 use path::Path;
 use tables::Clipboard;
+use tables::Found;
 use tables::Grant;
+use tables::Owner;
 use tables::Value;
 
+pub mod look;
 pub mod place;
 pub mod room;
 
@@ -23,6 +27,24 @@ pub struct Placed {
     pub name: u16,
     pub value: Value,
     pub permission: Grant,
+}
+
+// What the tests look at in a dossier, all that is left of it for them: whose the node is and the node above, how many children that has, the
+// attribute of the name and how many the node has, how many rows each table has; what is granted; and whether the object has the permission
+// itself, one that covers it, one that clashes with it.
+pub struct Seen {
+    pub node: Owner,
+    pub parent: Owner,
+    pub siblings: usize,
+    pub attribute: Found,
+    pub names: usize,
+    pub nodes: usize,
+    pub attributes: usize,
+    pub permissions: usize,
+    pub may: Decision,
+    pub held: bool,
+    pub covered: bool,
+    pub clashing: bool,
 }
 
 // What there is to paste, on the clipboard or in request 17's image: whether a branch, whether an attribute, its sizes, the steps of its longest path.

@@ -1,32 +1,24 @@
 // Refusals 2 to 5: what must be there, what must not, and what the clipboard must hold.
 ghost use mathlib.Core.Path.{_≡_};
-ghost use mathlib.Core.Bool.{_||_, not};
-ghost use Prim.Native.Nat.{_+_};
-ghost use lib.Dec.{T, ltb};
-ghost use Rattle.path.specs.Address.{valid, parent, last};
+ghost use mathlib.Core.Bool.{_||_};
+ghost use Prim.Native.Nat.{_+_, _≤_};
+ghost use lib.Dec.{T, eqb, ltb};
+ghost use Rattle.laws.specs.Slots.{pick};
+ghost use Rattle.path.specs.Address.{valid, last};
 ghost use Rattle.path.specs.View.{steps, asked, PathSound};
-ghost use Rattle.model.specs.Moves.{nodeAt, attributeObject, objectAt, childCount};
 ghost use Rattle.model.specs.Refusals as refusals;
-ghost use Rattle.model.specs.Run as run;
-ghost use Rattle.tables.specs.View.{viewGrant, viewDossier, DossierFits};
 ghost use Rattle.state.specs.View.{viewRequest};
 ghost use Rattle.refusals.specs.View.{viewPlaced, viewCache};
+ghost use Rattle.refusals.specs.Look.{SeenSound, ownerless, unfound, absentIn, takenIn};
 use crate::Cache;
 use crate::Placed;
-use counts::children_in;
-use decide::owner_of;
-use lookups::attribute_in;
-use lookups::holds_in;
-use lookups::owner_in;
+use crate::Seen;
 use path::Path;
 use path::last_step;
-use path::parent_of;
 use path::path_of;
 use path::size;
 use state::Request;
-use tables::Dossier;
 use tables::Found;
-use tables::Grant;
 use tables::Owner;
 
 // The request with its path taken.
@@ -62,74 +54,59 @@ pub fn at_root(q: Placed) -> bool
 
 // ---- what is not there
 
-fn no_node(d: Dossier, p: Path) -> bool
-    requires { ⌜ DossierFits d × PathSound p ⌝ }
-    ensures { λ b. ⌜ b ≡ refusals.missing (nodeAt (steps p) (viewDossier d)) ⌝ }
+fn nobody(o: Owner) -> bool
+    ensures { λ b. ⌜ b ≡ ownerless o ⌝ }
 {
-    match owner_in(d.nodes, p) {
+    match o {
         Owner::Nobody => true,
         Owner::User(_) => false,
     }
 }
 
-fn no_attribute(d: Dossier, p: Path, name: u16) -> bool
-    requires { ⌜ DossierFits d × PathSound p ⌝ }
-    ensures { λ b. ⌜ b ≡ refusals.missing (attributeObject (steps p) name (viewDossier d)) ⌝ }
+fn not_found(f: Found) -> bool
+    ensures { λ b. ⌜ b ≡ unfound f ⌝ }
 {
-    match attribute_in(d.attributes, p, name) {
+    match f {
         Found::Absent => true,
         Found::Present(_, _) => false,
     }
 }
 
 // No parent, or a place beyond its child count + 1.
-fn no_place(d: Dossier, p: Path) -> bool
-    requires { ⌜ DossierFits d × PathSound p ⌝ }
-    ensures { λ b. ⌜ b ≡ (refusals.missing (nodeAt (parent (steps p)) (viewDossier d)) || ltb (childCount (parent (steps p)) (viewDossier d) + 1) (last (steps p))) ⌝ }
+fn no_place(parent: Owner, children: usize, p: Path) -> bool
+    requires { ⌜ PathSound p × (children ≤ 64) ⌝ }
+    ensures { λ b. ⌜ b ≡ (ownerless parent || ltb (children + 1) (last (steps p))) ⌝ }
 {
-    let above = parent_of(p);
-    let children = children_in(d.nodes, above);
     let place = last_step(p) as usize;
-    no_node(d, above) | (children + 1 < place)
+    nobody(parent) | (children + 1 < place)
 }
 
-fn no_object(d: Dossier, p: Path, name: u16) -> bool
-    requires { ⌜ DossierFits d × PathSound p ⌝ }
-    ensures { λ b. ⌜ b ≡ refusals.missing (objectAt (steps p) name (viewDossier d)) ⌝ }
+fn no_object(node: Owner, attribute: Found, name: u16) -> bool
+    ensures { λ b. ⌜ b ≡ pick (eqb name 0) (ownerless node) (unfound attribute) ⌝ }
 {
-    match owner_of(d, p, name) {
-        Owner::Nobody => true,
-        Owner::User(_) => false,
+    if name == 0 {
+        return nobody(node);
     }
-}
-
-// The object has not exactly this permission.
-fn no_permission(d: Dossier, p: Path, name: u16, g: Grant) -> bool
-    requires { ⌜ DossierFits d × PathSound p ⌝ }
-    ensures { λ b. ⌜ b ≡ not (refusals.held (viewGrant g) (objectAt (steps p) name (viewDossier d))) ⌝ }
-{
-    match owner_of(d, p, name) {
-        Owner::Nobody => true,
-        Owner::User(_) => !holds_in(d.permissions, p, name, g),
-    }
+    not_found(attribute)
 }
 
 // Node, attribute, parent or exact permission absent, by what the number needs; an arm each for numbers that follow one another.
-pub fn absent(d: Dossier, q: Placed) -> bool
-    requires { ⌜ DossierFits d × PathSound (q .path) ⌝ }
-    ensures { λ b. ⌜ b ≡ refusals.absent (viewPlaced q) (run.found (viewPlaced q) (viewDossier d)) ⌝ }
+pub fn absent(s: Seen, q: Placed) -> bool
+    requires { ⌜ SeenSound s × PathSound (q .path) ⌝ }
+    ensures { λ b. ⌜ b ≡ absentIn s (viewPlaced q) ⌝ }
 {
-    let p = q.path;
-    let g = q.permission;
+    let node = s.node;
+    let parent = s.parent;
+    let attribute = s.attribute;
     let number = q.number;
     match number {
-        1 | 4 | 6 | 8 | 13 => no_node(d, p),
-        5 => no_node(d, p),
-        2 | 9 | 11 => no_attribute(d, p, q.name),
-        10 | 12 => no_attribute(d, p, q.name),
-        3 | 7 | 17 => no_place(d, p),
-        14 | 16 => no_object(d, p, q.name),
-        15 => no_permission(d, p, q.name, g),
+        1 | 4 | 6 | 8 | 13 => nobody(node),
+        5 => nobody(node),
+        2 | 9 | 11 => not_found(attribute),
+        10 | 12 => not_found(attribute),
+        3 | 7 | 17 => no_place(parent, s.siblings, q.path),
+        14 | 16 => no_object(node, attribute, q.name),
+        15 => !s.held,
         _ => false,
     }
 }
@@ -137,13 +114,13 @@ pub fn absent(d: Dossier, q: Placed) -> bool
 // ---- names and the clipboard
 
 // Request 8 or 13: the name is already on the node.
-pub fn taken(d: Dossier, q: Placed) -> bool
-    requires { ⌜ DossierFits d × PathSound (q .path) ⌝ }
-    ensures { λ b. ⌜ b ≡ refusals.taken (viewPlaced q) (run.found (viewPlaced q) (viewDossier d)) ⌝ }
+pub fn taken(s: Seen, q: Placed) -> bool
+    ensures { λ b. ⌜ b ≡ takenIn s (viewPlaced q) ⌝ }
 {
+    let attribute = s.attribute;
     let n = q.number;
     if (n == 8) | (n == 13) {
-        return !no_attribute(d, q.path, q.name);
+        return !not_found(attribute);
     }
     false
 }

@@ -5,101 +5,58 @@ ghost use Prim.Native.Nat.{_+_, _≤_};
 ghost use lib.Dec.{ltb};
 ghost use lib.ListN.{length};
 ghost use Rattle.path.specs.View.{PathSound};
-ghost use Rattle.model.specs.Decide.{coverAny, clashAny, subset, members};
+ghost use Rattle.model.specs.Decide.{subset, members};
 ghost use Rattle.model.specs.Refusals as refusals;
-ghost use Rattle.model.specs.Run as run;
-ghost use Rattle.tables.specs.View.{viewGrant, viewDossier, DossierFits};
 ghost use Rattle.refusals.specs.View.{viewPlaced, viewShelf, CacheSound};
-ghost use Rattle.refusals.specs.Parts.{objectOf, totalsOf};
+ghost use Rattle.refusals.specs.Look.{SeenSound, uncoveredIn, clashingIn, totalsIn};
 use crate::Cache;
 use crate::Placed;
+use crate::Seen;
 use crate::Shelf;
 use counts::attributes_over;
-use counts::children_in;
 use counts::children_over;
 use counts::depth_over;
 use counts::nodes_over;
 use counts::on_node_over;
 use counts::permissions_over;
-use decide::owner_of;
-use grants::Subject;
-use grants::clash_in;
-use grants::cover_in;
 use grants::subset;
-use lookups::count_on;
-use path::parent_of;
 use path::size;
 use state::entries::message_count;
-use tables::Dossier;
-use tables::Owner;
 
 // ---- the permissions of the object
 
-fn is_covered(d: Dossier, q: Placed) -> bool
-    requires { ⌜ DossierFits d × PathSound (q .path) ⌝ }
-    ensures { λ b. ⌜ b ≡ coverAny (refusals.subject (viewPlaced q)) (viewGrant (q .permission)) (refusals.permissionsOf (objectOf d q)) ⌝ }
-{
-    let s = Subject {
-        role: q.role,
-        user: q.user,
-        time: q.time,
-    };
-    match owner_of(d, q.path, q.name) {
-        Owner::Nobody => false,
-        Owner::User(_) => cover_in(d.permissions, q.path, q.name, s, q.permission),
-    }
-}
-
 // Request 16: nothing covers the delegated permission.
-pub fn uncovered(d: Dossier, q: Placed) -> bool
-    requires { ⌜ DossierFits d × PathSound (q .path) ⌝ }
-    ensures { λ b. ⌜ b ≡ refusals.uncovered (viewPlaced q) (run.found (viewPlaced q) (viewDossier d)) ⌝ }
+pub fn uncovered(s: Seen, q: Placed) -> bool
+    ensures { λ b. ⌜ b ≡ uncoveredIn s (viewPlaced q) ⌝ }
 {
-    if q.number == 16 {
-        return !is_covered(d, q);
-    }
-    false
-}
-
-fn has_clash(d: Dossier, q: Placed) -> bool
-    requires { ⌜ DossierFits d × PathSound (q .path) ⌝ }
-    ensures { λ b. ⌜ b ≡ clashAny (viewGrant (q .permission)) (refusals.permissionsOf (objectOf d q)) ⌝ }
-{
-    match owner_of(d, q.path, q.name) {
-        Owner::Nobody => false,
-        Owner::User(_) => clash_in(d.permissions, q.path, q.name, q.permission),
-    }
+    (q.number == 16) & !s.covered
 }
 
 // Request 14 or 16: a permission of the object clashes.
-pub fn clashing(d: Dossier, q: Placed) -> bool
-    requires { ⌜ DossierFits d × PathSound (q .path) ⌝ }
-    ensures { λ b. ⌜ b ≡ refusals.clashing (viewPlaced q) (run.found (viewPlaced q) (viewDossier d)) ⌝ }
+pub fn clashing(s: Seen, q: Placed) -> bool
+    ensures { λ b. ⌜ b ≡ clashingIn s (viewPlaced q) ⌝ }
 {
     let n = q.number;
-    if (n == 14) | (n == 16) {
-        return has_clash(d, q);
-    }
-    false
+    ((n == 14) | (n == 16)) & s.clashing
 }
 
 // ---- bounds, each by itself
 
-fn nodes_full(d: Dossier, c: Cache, q: Placed) -> bool
-    requires { ⌜ DossierFits d × CacheSound c ⌝ }
-    ensures { λ b. ⌜ b ≡ refusals.nodesOver (totalsOf d c q .nodes) ⌝ }
+fn nodes_full(s: Seen, c: Cache, q: Placed) -> bool
+    requires { ⌜ SeenSound s × CacheSound c ⌝ }
+    ensures { λ b. ⌜ b ≡ refusals.nodesOver (totalsIn s c q .nodes) ⌝ }
 {
     let number = q.number;
     match number {
-        3 => nodes_over(d.nodes.count + 1),
-        7 | 17 => nodes_over(d.nodes.count + c.nodes),
+        3 => nodes_over(s.nodes + 1),
+        7 | 17 => nodes_over(s.nodes + c.nodes),
         _ => false,
     }
 }
 
-fn depth_full(d: Dossier, c: Cache, q: Placed) -> bool
+fn depth_full(s: Seen, c: Cache, q: Placed) -> bool
     requires { ⌜ CacheSound c × PathSound (q .path) ⌝ }
-    ensures { λ b. ⌜ b ≡ refusals.depthOver (totalsOf d c q .depth) ⌝ }
+    ensures { λ b. ⌜ b ≡ refusals.depthOver (totalsIn s c q .depth) ⌝ }
 {
     let number = q.number;
     match number {
@@ -109,64 +66,64 @@ fn depth_full(d: Dossier, c: Cache, q: Placed) -> bool
     }
 }
 
-fn children_full(d: Dossier, c: Cache, q: Placed) -> bool
-    requires { ⌜ DossierFits d × PathSound (q .path) ⌝ }
-    ensures { λ b. ⌜ b ≡ refusals.childrenOver (totalsOf d c q .children) ⌝ }
+fn children_full(s: Seen, c: Cache, q: Placed) -> bool
+    requires { ⌜ SeenSound s × PathSound (q .path) ⌝ }
+    ensures { λ b. ⌜ b ≡ refusals.childrenOver (totalsIn s c q .children) ⌝ }
 {
     let number = q.number;
     match number {
-        3 | 7 | 17 => children_over(children_in(d.nodes, parent_of(q.path)) + 1),
+        3 | 7 | 17 => children_over(s.siblings + 1),
         _ => false,
     }
 }
 
-fn attributes_full(d: Dossier, c: Cache, q: Placed) -> bool
-    requires { ⌜ DossierFits d × CacheSound c ⌝ }
-    ensures { λ b. ⌜ b ≡ refusals.attributesOver (totalsOf d c q .attributes) ⌝ }
+fn attributes_full(s: Seen, c: Cache, q: Placed) -> bool
+    requires { ⌜ SeenSound s × CacheSound c ⌝ }
+    ensures { λ b. ⌜ b ≡ refusals.attributesOver (totalsIn s c q .attributes) ⌝ }
 {
     let number = q.number;
     match number {
-        7 | 17 => attributes_over(d.attributes.count + c.attributes),
-        8 | 13 => attributes_over(d.attributes.count + 1),
+        7 | 17 => attributes_over(s.attributes + c.attributes),
+        8 | 13 => attributes_over(s.attributes + 1),
         _ => false,
     }
 }
 
-fn on_node_full(d: Dossier, c: Cache, q: Placed) -> bool
-    requires { ⌜ DossierFits d × PathSound (q .path) ⌝ }
-    ensures { λ b. ⌜ b ≡ refusals.onNodeOver (totalsOf d c q .onNode) ⌝ }
+fn on_node_full(s: Seen, c: Cache, q: Placed) -> bool
+    requires { ⌜ SeenSound s × PathSound (q .path) ⌝ }
+    ensures { λ b. ⌜ b ≡ refusals.onNodeOver (totalsIn s c q .onNode) ⌝ }
 {
     let number = q.number;
     match number {
-        8 | 13 => on_node_over(count_on(d.attributes, q.path) + 1),
-        14 | 16 => on_node_over(count_on(d.attributes, q.path)),
+        8 | 13 => on_node_over(s.names + 1),
+        14 | 16 => on_node_over(s.names),
         _ => false,
     }
 }
 
-fn permissions_full(d: Dossier, c: Cache, q: Placed) -> bool
-    requires { ⌜ DossierFits d × CacheSound c ⌝ }
-    ensures { λ b. ⌜ b ≡ refusals.permissionsOver (totalsOf d c q .permissions) ⌝ }
+fn permissions_full(s: Seen, c: Cache, q: Placed) -> bool
+    requires { ⌜ SeenSound s × CacheSound c ⌝ }
+    ensures { λ b. ⌜ b ≡ refusals.permissionsOver (totalsIn s c q .permissions) ⌝ }
 {
     let number = q.number;
     match number {
-        7 | 13 | 17 => permissions_over(d.permissions.count + c.permissions),
-        14 | 16 => permissions_over(d.permissions.count + 1),
+        7 | 13 | 17 => permissions_over(s.permissions + c.permissions),
+        14 | 16 => permissions_over(s.permissions + 1),
         _ => false,
     }
 }
 
 // The first that would be passed, in the table's order.
-pub fn shelf_for(d: Dossier, c: Cache, q: Placed) -> Shelf
-    requires { ⌜ DossierFits d × CacheSound c × PathSound (q .path) ⌝ }
-    ensures { λ s. ⌜ viewShelf s ≡ refusals.firstThat (refusals.shelves (totalsOf d c q)) ⌝ }
+pub fn shelf_for(s: Seen, c: Cache, q: Placed) -> Shelf
+    requires { ⌜ SeenSound s × CacheSound c × PathSound (q .path) ⌝ }
+    ensures { λ r. ⌜ viewShelf r ≡ refusals.firstThat (refusals.shelves (totalsIn s c q)) ⌝ }
 {
-    let nodes = nodes_full(d, c, q);
-    let depth = depth_full(d, c, q);
-    let children = children_full(d, c, q);
-    let attributes = attributes_full(d, c, q);
-    let on_node = on_node_full(d, c, q);
-    let permissions = permissions_full(d, c, q);
+    let nodes = nodes_full(s, c, q);
+    let depth = depth_full(s, c, q);
+    let children = children_full(s, c, q);
+    let attributes = attributes_full(s, c, q);
+    let on_node = on_node_full(s, c, q);
+    let permissions = permissions_full(s, c, q);
     if nodes {
         return Shelf::Full(13);
     }

@@ -1,10 +1,12 @@
 -- `decide::change_node` meets its contract: nothing where there is no node, else the owner's right or permissions that match for read and for change. Assumes nothing.
 use borrow.Author.Needs.{needs}
+use mathlib.Core.Path.{ap}
 use Rattle.path.specs.View.{steps}
 use Rattle.model.specs.Decide.{matched, changeBy}
 use Rattle.model.specs.Moves.{permissionsIn}
 use Rattle.tables.specs.View.{viewDossier}
 use Rattle.grants.specs.View.{viewSubject}
+use Rattle.grants.specs.declared.Walk.{Walk}
 use Rattle.tables.proofs.Parts.{nodes-sound, permissions-sound}
 use Rattle.decide.proofs.Objects.{no-node, on-node, owning, not-owning, both-joined}
 use Rattle.decide.proofs.change_node.Statement.{statement}
@@ -26,14 +28,9 @@ returns c =
     on-node (changeBy (viewSubject (s .args .s))) (steps (s .args .p)) (viewDossier (s .args .d)) (k .before .before .owner-in .ensures) (k .u .given .1)
     (owning _ (c .if1 .taken))
 
-matched-requires : tie.Need-matched-requires
-matched-requires c κs =
+walked-requires : tie.Need-walked-requires
+walked-requires c κs =
     let s = c .before .before .before .before .before .before in
-    (permissions-sound (s .pre .0), s .pre .1)
-
-matched-requires-2 : tie.Need-matched-requires-2
-matched-requires-2 c κs =
-    let s = c .before .before .before .before .before .before .before in
     (permissions-sound (s .pre .0), s .pre .1)
 
 joined-requires : tie.Need-joined-requires
@@ -46,13 +43,14 @@ returns-2 c =
 
 returns-3 : tie.Need-returns-3
 returns-3 c =
-    let m = c .before .before in
+    let m = c .before in
     let k = m .before .before .before .before in
     let s = k .before .before .before in
     let a = viewSubject (s .args .s) in
     let l = permissionsIn (steps (s .args .p)) 0 (viewDossier (s .args .d) .permissions) in
+    let w = m .walked .ensures in
     on-node (changeBy a) (steps (s .args .p)) (viewDossier (s .args .d)) (k .before .before .owner-in .ensures) (k .u .given .1)
-    (not-owning _ (m .before .if1 .left) (both-joined (matched a 1 l) (matched a 2 l) (c .joined .ensures) (m .matched .ensures) (c .before .matched2 .ensures)))
+    (not-owning _ (m .before .if1 .left) (both-joined (matched a 1 l) (matched a 2 l) (c .joined .ensures) (ap (λ (x : Walk). x .read) w) (ap (λ (x : Walk). x .change) w)))
 
 pub change-node-spec : {M : Type 1} → statement M
-change-node-spec = tie.close (tie.spec owner-in-requires enum-told enum-known-u returns matched-requires matched-requires-2 joined-requires returns-2 returns-3)
+change-node-spec = tie.close (tie.spec owner-in-requires enum-told enum-known-u returns walked-requires joined-requires returns-2 returns-3)

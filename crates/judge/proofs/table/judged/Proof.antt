@@ -1,5 +1,5 @@
 -- `judge::table::judged` meets its contract: test 1, and then the rest of the request with its path taken. Assumes nothing.
-use mathlib.Core.Path.{_≡_, sym, ap, _∙_}
+use mathlib.Core.Path.{_≡_, sym, ap, subst, _∙_}
 use mathlib.Core.Bool.{false}
 use Prim.Native.Nat.{ℕ}
 use borrow.Author.Needs.{needs}
@@ -8,9 +8,11 @@ use Rattle.model.specs.Run.{found}
 use Rattle.tables.specs.View.{viewDossier}
 use Rattle.state.specs.View.{viewRequest, viewSignatures}
 use Rattle.refusals.specs.View.{viewCache}
-use Rattle.judge.specs.View.{standingOf}
-use Rattle.judge.specs.View.{judgement}
-use Rattle.judge.proofs.Order.{Good, good, refused-1, verdict}
+use Rattle.refusals.specs.declared.Seen.{Seen}
+use Rattle.refusals.specs.Look.{SeenSound}
+use Rattle.refusals.proofs.Looked.{seen-sound}
+use Rattle.judge.specs.View.{standingOf, judgedOf, judgement, judgedIn}
+use Rattle.judge.proofs.Order.{Good, good, refused-1, on-seen}
 use Rattle.judge.proofs.table.judged.Statement.{statement}
 use Rattle.judge.proofs.table.judged.Tie as tie
 
@@ -36,21 +38,28 @@ signed-by-requires c κs = let g = good-ones c in (g .user-least, g .user-most)
 placed-requires : tie.Need-placed-requires
 placed-requires c κs = good-ones (c .before) .path
 
+looked-requires : tie.Need-looked-requires
+looked-requires c κs = (c .before .before .before .before .pre .0, c .placed .ensures .1)
+
 judged-placed-requires : tie.Need-judged-placed-requires
 judged-placed-requires c κs =
-    let i = c .before .before in
-    let p = i .before .before .pre in
-    let q = c .placed .ensures in
-    (p .0, p .1, p .2, q .1, ap refusals.badOperand (q .0) ∙ operands i)
+    let g = c .before in
+    let s = g .before .before .before .before in
+    (subst SeenSound (sym (c .looked .ensures)) (seen-sound (s .args .d) (g .placed .result) (s .pre .0)), s .pre .1, s .pre .2, g .placed .ensures .1)
 
 returns-2 : tie.Need-returns-2
 returns-2 c =
-    let p = c .before in
+    let l = c .before in
+    let p = l .before in
     let g = p .before in
-    let a = g .before .before .before .args in
+    let i = g .before in
+    let a = i .before .before .args in
+    let q = p .placed .result in
     c .judged-placed .ensures
-    ∙ ap (λ (n : ℕ). judgement (a .d) (a .c) n (a .entries) (p .placed .result)) (g .signed-by .ensures)
-    ∙ ap (λ (z : refusals.Request). verdict z (found z (viewDossier (a .d))) (viewCache (a .c)) (standingOf (viewRequest (a .r)) (viewSignatures (a .rows)) (a .entries))) (p .placed .ensures .0)
+    ∙ ap (λ (s : Seen). judgedIn s (a .c) (g .signed-by .result) (a .entries) q) (l .looked .ensures)
+    ∙ on-seen (a .d) (a .c) (g .signed-by .result) (a .entries) q (ap refusals.badOperand (p .placed .ensures .0) ∙ operands i)
+    ∙ ap (λ (n : ℕ). judgement (a .d) (a .c) n (a .entries) q) (g .signed-by .ensures)
+    ∙ ap (λ (z : refusals.Request). judgedOf (refusals.refusal z (found z (viewDossier (a .d))) (viewCache (a .c)) (standingOf (viewRequest (a .r)) (viewSignatures (a .rows)) (a .entries))) (refusals.granted z (found z (viewDossier (a .d))))) (p .placed .ensures .0)
 
 pub judged-spec : {M : Type 1} → statement M
-judged-spec = tie.close (tie.spec bad-operand-requires returns signed-by-requires placed-requires judged-placed-requires returns-2)
+judged-spec = tie.close (tie.spec bad-operand-requires returns signed-by-requires placed-requires looked-requires judged-placed-requires returns-2)

@@ -1,33 +1,20 @@
--- `refusals::place::no_object` meets its contract. Assumes nothing.
-use mathlib.Core.Path.{sym, ap, _∙_}
+-- `refusals::place::no_object` meets its contract: name 0 is the node. Assumes nothing.
 use borrow.Author.Needs.{needs}
-use Rattle.path.specs.View.{steps}
-use Rattle.model.specs.Moves.{objectAt}
-use Rattle.tables.specs.View.{viewDossier}
-use Rattle.refusals.proofs.Objects.{ownerless, object-missing}
+use borrow.Author.Tests.{eq-eqb, ne-eqb}
 use Rattle.refusals.proofs.place.no_object.Statement.{statement}
 use Rattle.refusals.proofs.place.no_object.Tie as tie
 
-owner-of-requires : tie.Need-owner-of-requires
-owner-of-requires c κs = search needs
-
-enum-told : tie.Need-enum-told
-enum-told c = search needs
-
-enum-told-2 : tie.Need-enum-told-2
-enum-told-2 c = search needs
+nobody-requires : tie.Need-nobody-requires
+nobody-requires c κs = search needs
 
 returns : tie.Need-returns
-returns c =
-    let o = c .before .before in
-    let a = o .before .args in
-    ap ownerless (sym (c .enum-told .given .1) ∙ o .owner-of .ensures) ∙ object-missing (objectAt (steps (a .p)) (a .name) (viewDossier (a .d)))
+returns c = rw (eq-eqb (c .before .before .args .name) 0 (c .before .if1 .taken)) (c .nobody .ensures)
+
+not-found-requires : tie.Need-not-found-requires
+not-found-requires c κs = search needs
 
 returns-2 : tie.Need-returns-2
-returns-2 c =
-    let o = c .before .before in
-    let a = o .before .args in
-    ap ownerless (sym (c .enum-told2 .given .1) ∙ o .owner-of .ensures) ∙ object-missing (objectAt (steps (a .p)) (a .name) (viewDossier (a .d)))
+returns-2 c = rw (ne-eqb (c .before .before .args .name) 0 (c .before .if1 .left)) (c .not-found .ensures)
 
 pub no-object-spec : {M : Type 1} → statement M
-no-object-spec = tie.close (tie.spec owner-of-requires enum-told enum-told-2 returns returns-2)
+no-object-spec = tie.close (tie.spec nobody-requires returns not-found-requires returns-2)

@@ -5,7 +5,7 @@ use Rattle.operands.proofs.Numbers.{one, or}
 use Rattle.refusals.proofs.Totals.{no-branch}
 use Rattle.refusals.proofs.room.depth_full.Statement.{statement}
 use Rattle.refusals.proofs.room.depth_full.Tie as tie
-use Rattle.refusals.specs.Parts.{foundFor}
+use Rattle.refusals.specs.Look.{roomIn}
 use Rattle.refusals.specs.View.{viewPlaced, viewCache}
 use Rattle.model.specs.Refusals as refusals
 use native.Mathlib.Nat.{add-zero}
@@ -17,7 +17,7 @@ use mathlib.Core.Path.{refl, sym, ap, _∙_}
 
 -- the rule, of a request with another number
 abbrev rule : tie.Start → refusals.Request → Bool
-rule s r = refusals.depthOver (refusals.totals r (foundFor (s .args .d) (s .args .q)) (viewCache (s .args .c)) .depth)
+rule s r = refusals.depthOver (refusals.totals r (roomIn (s .args .s)) (viewCache (s .args .c)) .depth)
 
 size-requires : tie.Need-size-requires
 size-requires c κs = search needs
@@ -50,7 +50,7 @@ returns-2 c =
 returns-3 : tie.Need-returns-3
 returns-3 c =
     let a = c .before .args in
-    sym (no-branch (viewPlaced (a .q)) (foundFor (a .d) (a .q)) (viewCache (a .c)) (λ t. refusals.depthOver (t .depth)) refl (λ x y. refl) (c .match .rest .0 .1) (λ e. c .match .rest .1 (inl e)) (λ e. c .match .rest .1 (inr e)))
+    sym (no-branch (viewPlaced (a .q)) (roomIn (a .s)) (viewCache (a .c)) (λ t. refusals.depthOver (t .depth)) refl (λ x y. refl) (c .match .rest .0 .1) (λ e. c .match .rest .1 (inl e)) (λ e. c .match .rest .1 (inr e)))
 
 pub depth-full-spec : {M : Type 1} → statement M
 depth-full-spec = tie.close (tie.spec size-requires depth-over-requires size-requires-2 add-depth-over depth-over-requires-2 returns returns-2 returns-3)

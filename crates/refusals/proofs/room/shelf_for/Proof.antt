@@ -5,7 +5,7 @@ use mathlib.Core.Option.{Option}
 use mathlib.Core.List.{[], _∷_}
 use Prim.Native.Nat.{ℕ}
 use Rattle.model.specs.Refusals as refusals
-use Rattle.refusals.specs.Parts.{totalsOf}
+use Rattle.refusals.specs.Look.{totalsIn}
 use Rattle.refusals.proofs.room.shelf_for.Statement.{statement}
 use Rattle.refusals.proofs.room.shelf_for.Tie as tie
 
@@ -38,7 +38,7 @@ module _ (a : tie.After-permissions-full) where
   start = a .before .before .before .before .before .before
 
   abbrev totals : refusals.Totals
-  totals = totalsOf (start .args .d) (start .args .c) (start .args .q)
+  totals = totalsIn (start .args .s) (start .args .c) (start .args .q)
 
   nodes : refusals.nodesOver (totals .nodes) ≡ a .before .before .before .before .before .nodes-full .result
   nodes = sym (a .before .before .before .before .before .nodes-full .ensures)

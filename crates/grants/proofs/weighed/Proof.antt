@@ -1,39 +1,38 @@
--- `grants::matched` meets its contract: the search begins at the object's place and stops at the first permission of the object that matches. Assumes nothing.
+-- `grants::weighed` meets its contract: the walk begins at the object's place, compares each of its permissions with the one, and ends at the first row of another object. Assumes nothing.
 use Prim.Native.Nat.{_+_, _-_, _/_, _<_, _≤_, ℕ}
-use Rattle.grants.proofs.matched.Statement.{statement}
-use Rattle.grants.proofs.matched.Tie as tie
-use Rattle.grants.specs.View.{decisionOf, viewSubject}
+use Rattle.grants.proofs.Gather.{Gathers, gather-all, gather-end, gather-other, gather-row}
+use Rattle.grants.proofs.Told.{weightsFrom, weights-end, weights-next}
+use Rattle.grants.proofs.weighed.Statement.{statement}
+use Rattle.grants.proofs.weighed.Tie as tie
+use Rattle.grants.specs.View.{viewSubject, weightsOf}
 use Rattle.laws.proofs.Fill.{held-each, held-room}
-use Rattle.laws.specs.Slots.{pick}
-use Rattle.model.specs.Decide as model
-use Rattle.model.specs.Things.{Permission}
 use Rattle.laws.proofs.Search.{place-most, row-side}
+use Rattle.model.specs.Moves.{permissionsIn}
 use Rattle.path.specs.View.{steps}
 use Rattle.tables.proofs.Places.{permissions-searched}
 use Rattle.tables.proofs.Rows.{permission-path, permissions-held}
-use Rattle.tables.proofs.Walk.{Left, at-place, hit, miss, other, past-end}
 use Rattle.tables.specs.Places.{permissionPlace}
-use Rattle.tables.specs.View.{noPermission, viewPermissions}
+use Rattle.tables.specs.View.{noPermission, viewGrant, viewPermissions}
 use borrow.Author.Needs.{needs}
 use borrow.Author.Tests.{ltb-false, ltb-true}
 use lib.Dec.{ltb}
-use mathlib.Core.Bool.{Bool, false, true}
-use mathlib.Core.List.{List, _∷_}
-use mathlib.Core.Option.{some}
-use mathlib.Core.Path.{_∙_, _≡_, refl, sym}
+use lib.ListN.{getD}
+use mathlib.Core.Bool.{false, _||_}
+use mathlib.Core.Path.{_∙_, _≡_, sym}
 use native.Mathlib.Omega.{arith}
 
 abbrev Inv-loop : tie.InvT-loop
-Inv-loop p name s action t n i₀ hi₀ i hi = (i ≤ permissionPlace (steps p, name) (viewPermissions t)) × (permissionPlace (steps p, name) (viewPermissions t) ≤ hi) × (hi ≤ t .count) × (t .count ≤ 128)
+Inv-loop p name s g t n i₀ hi₀ i hi = (i ≤ permissionPlace (steps p, name) (viewPermissions t)) × (permissionPlace (steps p, name) (viewPermissions t) ≤ hi) × (hi ≤ t .count) × (t .count ≤ 128)
 
 abbrev μ-loop : tie.MeasureT-loop
-μ-loop p name s action t n i₀ hi₀ i hi = hi - i
+μ-loop p name s g t n i₀ hi₀ i hi = hi - i
 
 abbrev Inv-loop2 : tie.InvT-loop2
-Inv-loop2 p name s action t n i₀ hi i = (i ≤ n) × (n ≤ 128) × Left (λ l. decisionOf (model.matched (viewSubject s) action l)) (steps p) name t i
+Inv-loop2 p name s g t n i₀ hi held₀ covered₀ clashing₀ i held covered clashing =
+    (i ≤ n) × (n ≤ 128) × Gathers (weightsOf (viewSubject s) (viewGrant g) (permissionsIn (steps p) name (viewPermissions t))) (weightsFrom held covered clashing (viewSubject s) (viewGrant g)) (steps p) name t i
 
 abbrev μ-loop2 : tie.MeasureT-loop2
-μ-loop2 p name s action t n i₀ hi i = n - i
+μ-loop2 p name s g t n i₀ hi held₀ covered₀ clashing₀ i held covered clashing = n - i
 
 loop-holds : tie.Need-loop-holds Inv-loop μ-loop Inv-loop2 μ-loop2
 loop-holds c = (search needs, place-most (permissions-searched (c .pre .0)) (steps (c .args .p), c .args .name), search needs, held-room _ _ _ _ _ _ (permissions-held (c .args .t1) (c .pre .0)))
@@ -90,13 +89,13 @@ loop2-holds c =
     let l = c .before .loop in
     let s = c .before .before in
     let e : l .i ≡ permissionPlace (steps (s .args .p), s .args .name) (viewPermissions (s .args .t1)) = omega arith in
-    (omega arith, l .inv .3, at-place (λ k. decisionOf (model.matched (viewSubject (s .args .s)) (s .args .action) k)) _ _ _ (l .i) (s .pre .0) e)
+    (omega arith, l .inv .3, gather-all (weightsFrom false false false (viewSubject (s .args .s)) (viewGrant (s .args .g))) _ _ _ (l .i) (s .pre .0) e)
 
-mul-a : tie.Need-mul-a Inv-loop μ-loop Inv-loop2 μ-loop2
-mul-a c = search needs
+mul-one : tie.Need-mul-one Inv-loop μ-loop Inv-loop2 μ-loop2
+mul-one c = search needs
 
-element-copy-out-a : tie.Need-element-copy-out-a Inv-loop μ-loop Inv-loop2 μ-loop2
-element-copy-out-a c = search needs
+element-copy-out-one : tie.Need-element-copy-out-one Inv-loop μ-loop Inv-loop2 μ-loop2
+element-copy-out-one c = search needs
 
 is-same-requires : tie.Need-is-same-requires Inv-loop μ-loop Inv-loop2 μ-loop2
 is-same-requires c κs =
@@ -104,25 +103,14 @@ is-same-requires c κs =
     let row = held-each _ _ _ _ _ _ (permissions-held (s .args .t1) (s .pre .0)) (c .before .before .before .loop2 .i) noPermission (c .before .before .loop2-test .taken) in
     (permission-path row, s .pre .1)
 
-matches-requires : tie.Need-matches-requires Inv-loop μ-loop Inv-loop2 μ-loop2
-matches-requires c κs = search needs
+same-grant-requires : tie.Need-same-grant-requires Inv-loop μ-loop Inv-loop2 μ-loop2
+same-grant-requires c κs = search needs
 
-turn : (s : model.Subject) (action : ℕ) (g : Permission) (l : List Permission)
-    → decisionOf (model.matched s action (g ∷ l)) ≡ pick (model.matches s action g) (decisionOf (some (model.provisionsOf g))) (decisionOf (model.matched s action l))
-turn s action g l = go (model.matches s action g)
-  where
-    go : (b : Bool) → decisionOf (pick b (some (model.provisionsOf g)) (model.matched s action l)) ≡ pick b (decisionOf (some (model.provisionsOf g))) (decisionOf (model.matched s action l))
-    go true = refl
-    go false = refl
+covers-requires : tie.Need-covers-requires Inv-loop μ-loop Inv-loop2 μ-loop2
+covers-requires c κs = search needs
 
-returns : tie.Need-returns Inv-loop μ-loop Inv-loop2 μ-loop2
-returns c =
-    let r = c .before .before .before .before in
-    let s = r .before .before .before .before .before .before .before in
-    let l = r .before .before .before .before .loop2 in
-    let a = viewSubject (s .args .s) in
-    hit (λ k. decisionOf (model.matched a (s .args .action) k)) _ _ _ (l .i) (l .inv .2) (s .pre .0) (r .before .before .before .loop2-test .taken) (r .is-same .ensures)
-    (model.matches a (s .args .action)) (λ x. decisionOf (some (model.provisionsOf x))) (turn a (s .args .action)) (c .before .before .before .if2 .taken) (c .before .matches .ensures) (c .if3 .taken)
+clash-requires : tie.Need-clash-requires Inv-loop μ-loop Inv-loop2 μ-loop2
+clash-requires c κs = search needs
 
 add-i-2 : tie.Need-add-i-2 Inv-loop μ-loop Inv-loop2 μ-loop2
 add-i-2 c = search needs
@@ -132,31 +120,41 @@ loop2-less c = search needs
 
 loop2-again : tie.Need-loop2-again Inv-loop μ-loop Inv-loop2 μ-loop2
 loop2-again c =
-    let r = c .before .before .before .before in
+    let x = c .before .before in
+    let r = x .before .before .before in
     let s = r .before .before .before .before .before .before .before in
     let l = r .before .before .before .before .loop2 in
-    let a = viewSubject (s .args .s) in (
+    let a = viewSubject (s .args .s) in
+    let g = viewGrant (s .args .g) in
+    let next = weights-next (l .held) (l .covered) (l .clashing) a g (viewGrant (getD (s .args .t1 .rows) (l .i) noPermission .grant)) (x .same-grant .ensures) (c .before .covers .ensures) (c .clash .ensures) in (
       search needs,
       search needs,
-      miss (λ k. decisionOf (model.matched a (s .args .action) k)) _ _ _ (l .i) (l .inv .2) (s .pre .0) (r .before .before .before .loop2-test .taken) (r .is-same .ensures)
-          (model.matches a (s .args .action)) (λ x. decisionOf (some (model.provisionsOf x))) (turn a (s .args .action)) (c .before .before .before .if2 .taken) (c .before .matches .ensures) (c .if3 .left),
+      gather-row (weightsFrom (l .held) (l .covered) (l .clashing) a g) _ _ _ (l .i) (l .inv .2) (s .pre .0) (r .before .before .before .loop2-test .taken) (r .is-same .ensures)
+          (weightsFrom (l .held || x .same-grant .result) (l .covered || c .before .covers .result) (l .clashing || c .clash .result) a g) (x .before .before .if2 .taken) next,
     )
 
-returns-2 : tie.Need-returns-2 Inv-loop μ-loop Inv-loop2 μ-loop2
-returns-2 c =
+loop2-less-2 : tie.Need-loop2-less-2 Inv-loop μ-loop Inv-loop2 μ-loop2
+loop2-less-2 c = search needs
+
+loop2-again-2 : tie.Need-loop2-again-2 Inv-loop μ-loop Inv-loop2 μ-loop2
+loop2-again-2 c =
     let r = c .before in
     let s = r .before .before .before .before .before .before .before in
     let l = r .before .before .before .before .loop2 in
-    other (λ k. decisionOf (model.matched (viewSubject (s .args .s)) (s .args .action) k)) _ _ _ (l .i) (l .inv .2) (s .pre .0) (r .before .before .before .loop2-test .taken) (r .is-same .ensures) (c .if2 .left)
+    let a = viewSubject (s .args .s) in
+    let g = viewGrant (s .args .g) in
+    (search needs, search needs, gather-other (weightsFrom (l .held) (l .covered) (l .clashing) a g) _ _ _ (l .i) (l .inv .2) (s .pre .0) (r .before .before .before .loop2-test .taken) (r .is-same .ensures) (c .if2 .left))
 
-returns-3 : tie.Need-returns-3 Inv-loop μ-loop Inv-loop2 μ-loop2
-returns-3 c =
+returns : tie.Need-returns Inv-loop μ-loop Inv-loop2 μ-loop2
+returns c =
     let s = c .before .before .before .before in
     let l = c .before .loop2 in
-    past-end (λ k. decisionOf (model.matched (viewSubject (s .args .s)) (s .args .action) k)) _ _ _ (l .i) (l .inv .2) (c .loop2-test .left)
+    let a = viewSubject (s .args .s) in
+    let g = viewGrant (s .args .g) in
+    weights-end (l .held) (l .covered) (l .clashing) a g ∙ gather-end (weightsFrom (l .held) (l .covered) (l .clashing) a g) _ _ _ (l .i) (l .inv .2) (c .loop2-test .left)
 
-pub matched-spec : {M : Type 1} → statement M
-matched-spec =
+pub weighed-spec : {M : Type 1} → statement M
+weighed-spec =
     tie.close
     (tie.spec
     Inv-loop
@@ -175,13 +173,15 @@ matched-spec =
     loop-less-2
     loop-again-2
     loop2-holds
-    mul-a
-    element-copy-out-a
+    mul-one
+    element-copy-out-one
     is-same-requires
-    matches-requires
-    returns
+    same-grant-requires
+    covers-requires
+    clash-requires
     add-i-2
     loop2-less
     loop2-again
-    returns-2
-    returns-3)
+    loop2-less-2
+    loop2-again-2
+    returns)
