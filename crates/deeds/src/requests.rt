@@ -1,14 +1,12 @@
 // What a request does to the dossier that it names or takes from it, where more than one function of the crates below is needed.
 ghost use mathlib.Core.Path.{_≡_};
-ghost use mathlib.Core.Option.{none};
 ghost use lib.Dec.{T};
 ghost use Rattle.path.specs.View.{steps, PathSound};
 ghost use Rattle.model.specs.Things as things;
 ghost use Rattle.model.specs.Moves as model;
 ghost use Rattle.model.specs.Image as images;
 ghost use Rattle.model.specs.Run as run;
-ghost use Rattle.tables.specs.View.{DossierSound, clipboardOf, dossierOf, viewDossier, viewValue};
-ghost use Rattle.edits.specs.Room.{AttributeRoom};
+ghost use Rattle.tables.specs.View.{DossierSound, clipboardOf, viewDossier};
 ghost use Rattle.state.specs.View.{answerOf};
 use counts::children_in;
 use edits;
@@ -52,22 +50,6 @@ pub fn copy_branch(d: Dossier, q: Placed) -> Clipboard
     ensures { λ r. ⌜ r ≡ clipboardOf (things.branch (model.copyBranch (steps (q .path)) (viewDossier d))) ⌝ }
 {
     edits::branch_clipboard(edits::copy_branch(d, q.path))
-}
-
-// 8: an attribute that belongs to the adding user.
-pub fn add_attribute(d: Dossier, q: Placed) -> Dossier
-    requires { ⌜ DossierSound d × PathSound (q .path) × AttributeRoom (viewDossier d) × (model.attributeAt (steps (q .path)) (q .name) (viewDossier d) ≡ none) ⌝ }
-    ensures { λ r. ⌜ r ≡ dossierOf (model.withAttribute (steps (q .path)) (record { name = q .name; owner = q .user; value = viewValue (q .value) }) (viewDossier d)) ⌝ }
-{
-    let p = q.path;
-    let v = q.value;
-    let a = Attribute {
-        path: p,
-        name: q.name,
-        owner: q.user,
-        value: v,
-    };
-    edits::with_attribute(d, a)
 }
 
 // 11, and the first half of 12: the attribute with its owner and permissions, under its own name.

@@ -65,13 +65,7 @@ fn cache_for(c: Clipboard, number: u8) -> Cache
 }
 
 // Refused, with its number; or what is to be done about it, and the messages to log.
-pub fn weighed(
-    d: Dossier,
-    c: Clipboard,
-    rows: [Agreements; 64],
-    log: Log,
-    r: Request,
-) -> Verdict
+pub fn weighed(d: Dossier, c: Clipboard, rows: [Agreements; 64], log: Log, r: Request) -> Verdict
     requires { ⌜ DossierFits d × ClipboardSound c × (log .count ≤ 256) ⌝ }
     ensures { λ v. ⌜ v ≡ weighedOf d c rows log r ⌝ }
 {

@@ -132,8 +132,8 @@ module _ (s : Session) (v : Verdict) (w : Weighs s v) where
   pub quiet-left : T (eqb (v .messages) 0) → (doneOf s v .answer ≡ step s (v .request) .answer) × (doneOf s v .session ≡ step s (v .request) .session)
   quiet-left t =
       let e = ⊎-elim
-              (λ u. ap (λ (b : Bool). pick b (record { session = s; answer = plainOf (Refused (v .refusal)) }) (deedOf s v)) (eq-eqb (v .class) 0 (u .class)) ∙ u .left)
-              (λ u. left (w .sound) u (log-quiet (v .request .user) (log-sound (w .sound)) (eqb→eq (v .messages) 0 t))) (turned-or-serves w) in
+      (λ u. ap (λ (b : Bool). pick b (record { session = s; answer = plainOf (Refused (v .refusal)) }) (deedOf s v)) (eq-eqb (v .class) 0 (u .class)) ∙ u .left)
+      (λ u. left (w .sound) u (log-quiet (v .request .user) (log-sound (w .sound)) (eqb→eq (v .messages) 0 t))) (turned-or-serves w) in
       (ap (λ (o : Stepped). o .answer) e, ap (λ (o : Stepped). o .session) e)
 
   loud : T (not (eqb (v .messages) 0)) → Serves s v

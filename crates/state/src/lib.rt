@@ -9,7 +9,6 @@ use tables::Names;
 use tables::Value;
 
 pub mod entries;
-pub mod parts;
 pub mod signatures;
 
 // The agreements that one user has signed, bit n for number n.

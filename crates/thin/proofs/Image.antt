@@ -111,7 +111,7 @@ module _
           replied (over T next′) ! tt (to-over T next′ 𝓤 H A W b o h r ν₂ δ₂ .0) v₂ (‵ (flft (ν₂ ∷ []) fullShare) ⊛ ‵ ftrue) (id⊢ 𝓤 _) (λ a ws₂ e₂. move ! (1 ∷ []) $ learnt ! (next′ .N) a v₂ (λ is₂.
           land ! (from ! (stop !)) (init ! 20 refl (lands (next′ .N) 𝓤 H A W a v₂ is₂)) $ rewrite ! 20 (λ (u : Val). ‵ (fat fullShare (next′ .N .ty) l₀ 0 u)) (ap only (next′ .N .tells a (v₂ ∷ []) is₂)) refl $
           came T next′ ! tt h r b o ws₂ (λ is-t₂.
-          returns-within ! (Ending this 𝓤 H A stayed ((κ, (κ′, tt)), (q, (q′, tt)), bounds, x, at)) refl (look ! 17 refl) $ move ! (17 ∷ 18 ∷ []) $ freed ! $ move ! (15 ∷ 16 ∷ []) $ freed ! $ move ! (13 ∷ 14 ∷ []) $ freed ! $ move ! (11 ∷ 12 ∷ []) $ freed ! $ move ! (9 ∷ 10 ∷ []) $ free1 ! $ move ! (7 ∷ 8 ∷ []) $ freed ! $ move ! (5 ∷ 6 ∷ []) $ freed ! $ move ! (3 ∷ 4 ∷ []) $ free1 ! $ free0 ! $ move ! (4 ∷ []) $ drop ! $ 
+          returns-within ! (Ending this 𝓤 H A stayed ((κ, (κ′, tt)), (q, (q′, tt)), bounds, x, at)) refl (look ! 17 refl) $ move ! (17 ∷ 18 ∷ []) $ freed ! $ move ! (15 ∷ 16 ∷ []) $ freed ! $ move ! (13 ∷ 14 ∷ []) $ freed ! $ move ! (11 ∷ 12 ∷ []) $ freed ! $ move ! (9 ∷ 10 ∷ []) $ free1 ! $ move ! (7 ∷ 8 ∷ []) $ freed ! $ move ! (5 ∷ 6 ∷ []) $ freed ! $ move ! (3 ∷ 4 ∷ []) $ free1 ! $ free0 ! $ move ! (4 ∷ []) $ drop ! $
           by ! (exits a (ws₂ .0) (e₂ .0 ∙ stay-means h r ys ok yes₁ .0) (e₂ .1 ∙ stay-means h r ys ok yes₁ .1) (spelled (next′ .N) a v₂ is₂))))))))
           (λ no₁. skips ! $ exec ! C Λ (((next .N .ty), l₀) ∷ ((refTy (named 0) mut T), l₁) ∷ ((next′ .J .ty), l₂) ∷ ((bytesTy (named 1) imm), l₃) ∷ ((next .J .ty), l₄) ∷ (tyBool, l₅) ∷ ((refTy erased mut T), l₆) ∷ ((refTy erased mut T), l₇) ∷ []) rest₁ (atRet (((next .N .ty), l₀) ∷ ((refTy (named 0) mut T), l₁) ∷ ((next′ .J .ty), l₂) ∷ ((bytesTy (named 1) imm), l₃) ∷ ((next .J .ty), l₄) ∷ (tyBool, l₅) ∷ ((refTy erased mut T), l₆) ∷ ((refTy erased mut T), l₇) ∷ []) (Ending this 𝓤 H A stayed ((κ, (κ′, tt)), (q, (q′, tt)), bounds, x, at))) $
           move ! (19 ∷ 20 ∷ []) $ use2 W (raw (triple by-image 𝓤 H A .pre to-f′)) (asked (to-f h r ys ok no₁)) $
@@ -125,7 +125,7 @@ module _
           replied (over T next) ! tt (to-over T next 𝓤 H A W b o h (step r ys) ν₄ δ₄ .0) v₄ (‵ (flft (ν₄ ∷ []) fullShare) ⊛ ‵ ftrue) (id⊢ 𝓤 _) (λ a ws₄ e₄. move ! (1 ∷ []) $ learnt ! (next .N) a v₄ (λ is₄.
           land ! (from ! (stop !)) (init ! 20 refl (lands (next .N) 𝓤 H A W a v₄ is₄)) $ rewrite ! 20 (λ (u : Val). ‵ (fat fullShare (next .N .ty) l₀ 0 u)) (ap only (next .N .tells a (v₄ ∷ []) is₄)) refl $
           came T next ! tt h (step r ys) b o ws₄ (λ is-t₄.
-          returns ! (look ! 17 refl) $ move ! (17 ∷ 18 ∷ []) $ freed ! $ move ! (15 ∷ 16 ∷ []) $ freed ! $ move ! (13 ∷ 14 ∷ []) $ freed ! $ move ! (11 ∷ 12 ∷ []) $ freed ! $ move ! (9 ∷ 10 ∷ []) $ freed ! $ move ! (7 ∷ 8 ∷ []) $ freed ! $ move ! (5 ∷ 6 ∷ []) $ free1 ! $ move ! (3 ∷ 4 ∷ []) $ freed ! $ free0 ! $ 
+          returns ! (look ! 17 refl) $ move ! (17 ∷ 18 ∷ []) $ freed ! $ move ! (15 ∷ 16 ∷ []) $ freed ! $ move ! (13 ∷ 14 ∷ []) $ freed ! $ move ! (11 ∷ 12 ∷ []) $ freed ! $ move ! (9 ∷ 10 ∷ []) $ freed ! $ move ! (7 ∷ 8 ∷ []) $ freed ! $ move ! (5 ∷ 6 ∷ []) $ free1 ! $ move ! (3 ∷ 4 ∷ []) $ freed ! $ free0 ! $
           by ! (exits a (ws₄ .0) (e₄ .0 ∙ means h r ys ok no₁ .0) (e₄ .1 ∙ means h r ys ok no₁ .1) (spelled (next .N) a v₄ is₄))))))))))))))))))))))
 
   pub image-meets : {M : Type 1} (𝓤 : URA M) (H : Heap 𝓤) (A : Atoms 𝓤) → Given 𝓤 H A → (𝓣 : Tables 𝓤 H) → Triple 𝓤 (𝓣 .C #stays) (triple (by-one (next′ .J) bool-kind none stays) 𝓤 H A) → Triple 𝓤 (𝓣 .C #next′) (triple (over T next′) 𝓤 H A) → Triple 𝓤 (𝓣 .C #f) (triple by-image 𝓤 H A) → Triple 𝓤 (𝓣 .C #next) (triple (over T next) 𝓤 H A)

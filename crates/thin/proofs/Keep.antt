@@ -34,7 +34,7 @@ module _
         opened T ! tt h b o (λ wasₓ. assigns ! (of-opd ! (load ! (from ! (stop !)) (look ! 4 refl))) (from ! (hop ! (look ! 6 refl) (fld ! (rx .place) (stop !)))) (store-in ! 0 (sub ! kx (rx .place) (whole !)) (X .typed 𝓤 H A W j is-j)) $
         rewrite ! 0 (λ (us : Vals). ‵ (fat fullShare (of T .ty) b o (vstruct us))) (wx .stores h j) refl $
         closed T ! tt (put h j) (wx .keeps h j wasₓ is-j) b o $
-        nothing ! $ use1 W (raw (triple (by-none N none finished) 𝓤 H A .pre (to-none N none finished 𝓤 H A W))) (asked-none N none finished 𝓤 H A W   tt) $
+        nothing ! $ use1 W (raw (triple (by-none N none finished) 𝓤 H A .pre (to-none N none finished 𝓤 H A W))) (asked-none N none finished 𝓤 H A W tt) $
         calls-at ! fm (triple (by-none N none finished) 𝓤 H A) ends (to-none N none finished 𝓤 H A W) (no-more !) (λ v₁.
         replied (by-none N none finished) ! tt ((to-none N none finished 𝓤 H A W) .0) v₁ (‵ ftrue) (id⊢ 𝓤 _) (λ a ws₁ e₁. drop ! $ learnt ! (N) a v₁ (λ is₁. drop ! $
         land ! (from ! (stop !)) (init ! 7 refl (lands (N) 𝓤 H A W a v₁ is₁)) $ rewrite ! 7 (λ (u : Val). ‵ (fat fullShare (N .ty) l₀ 0 u)) (ap only (N .tells a (v₁ ∷ []) is₁)) refl $

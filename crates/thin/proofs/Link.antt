@@ -53,7 +53,7 @@ module _
         rewrite ! 12 (λ (x : Of (get .N)). ‵ (fat fullShare (get .N .ty) l₄ 0 (get .N .val x))) (e .0) refl $
         came T get ! tt h (key j) b o ws (λ is-h. rewrite ! 0 (λ (t : The T). ‵ (fobs γ (of T .ty-row .coded .code t))) (e .1 ∙ same h (key j)) refl $
         nothing ! $ use1 W (raw (triple (by-two (get .N) (of Jd) (next .J) ask step) 𝓤 H A .pre (to-two (get .N) (of Jd) (next .J) ask step 𝓤 H A W (get .answers h (key j)) j)))
-            (asked-two (get .N) (of Jd) (next .J) ask step 𝓤 H A W (get .answers h (key j)) j (subst (Known (get .N)) (e .0) (spelled (get .N) p v is-p)) is-j (to-f h j ok)) $
+        (asked-two (get .N) (of Jd) (next .J) ask step 𝓤 H A W (get .answers h (key j)) j (subst (Known (get .N)) (e .0) (spelled (get .N) p v is-p)) is-j (to-f h j ok)) $
         calls-at ! fm (triple (by-two (get .N) (of Jd) (next .J) ask step) 𝓤 H A) does (to-two (get .N) (of Jd) (next .J) ask step 𝓤 H A W (get .answers h (key j)) j) (and-then ! (load ! (from ! (stop !)) (look ! 10 refl)) (and-then ! (load ! (from ! (stop !)) (look ! 14 refl)) (no-more !))) (λ v′.
         replied (by-two (get .N) (of Jd) (next .J) ask step) ! tt (to-two (get .N) (of Jd) (next .J) ask step 𝓤 H A W (get .answers h (key j)) j .0) v′ (‵ ftrue) (id⊢ 𝓤 _) (λ d ws′ e′. drop ! $ learnt ! (next .J) d v′ (λ is-d. drop ! $
         land ! (from ! (stop !)) (init ! 7 refl (lands (next .J) 𝓤 H A W d v′ is-d)) $ rewrite ! 7 (λ (u : Val). ‵ (fat fullShare (next .J .ty) l₅ 0 u)) (ap only (next .J .tells d (v′ ∷ []) is-d)) refl $

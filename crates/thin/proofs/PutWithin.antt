@@ -47,7 +47,7 @@ module _
         rewrite ! 0 (λ (us : Vals). ‵ (fat fullShare (of T .ty) b o (vstruct (setV (inner T h) k₁ (vstruct us))))) (wt .stores (get₁ h) (part j)) refl $
         rewrite ! 0 (λ (us : Vals). ‵ (fat fullShare (of T .ty) b o (vstruct us))) (wr₁ .stores h (putₜ (get₁ h) (part j))) refl $
         closed T ! tt (put₁ h (putₜ (get₁ h) (part j))) (wr₁ .keeps h (putₜ (get₁ h) (part j)) was₁ (wt .keeps (get₁ h) (part j) (rd₁ .gives h was₁) (rp .gives j is-j))) b o $
-        nothing ! $ use1 W (raw (triple (by-none N none finished) 𝓤 H A .pre (to-none N none finished 𝓤 H A W))) (asked-none N none finished 𝓤 H A W   tt) $
+        nothing ! $ use1 W (raw (triple (by-none N none finished) 𝓤 H A .pre (to-none N none finished 𝓤 H A W))) (asked-none N none finished 𝓤 H A W tt) $
         calls-at ! fm (triple (by-none N none finished) 𝓤 H A) ends (to-none N none finished 𝓤 H A W) (no-more !) (λ v₃.
         replied (by-none N none finished) ! tt ((to-none N none finished 𝓤 H A W) .0) v₃ (‵ ftrue) (id⊢ 𝓤 _) (λ a ws₃ e₃. drop ! $ learnt ! (N) a v₃ (λ is₃. drop ! $
         land ! (from ! (stop !)) (init ! 11 refl (lands (N) 𝓤 H A W a v₃ is₃)) $ rewrite ! 11 (λ (u : Val). ‵ (fat fullShare (N .ty) l₀ 0 u)) (ap only (N .tells a (v₃ ∷ []) is₃)) refl $
@@ -58,7 +58,7 @@ module _
         rewrite ! 0 (λ (us : Vals). ‵ (fat fullShare (of T .ty) b o (vstruct (setV (inner T h) k₂ (vstruct us))))) (wt .stores (get₂ h) (part j)) refl $
         rewrite ! 0 (λ (us : Vals). ‵ (fat fullShare (of T .ty) b o (vstruct us))) (wr₂ .stores h (putₜ (get₂ h) (part j))) refl $
         closed T ! tt (put₂ h (putₜ (get₂ h) (part j))) (wr₂ .keeps h (putₜ (get₂ h) (part j)) was₂ (wt .keeps (get₂ h) (part j) (rd₂ .gives h was₂) (rp .gives j is-j))) b o $
-        nothing ! $ use1 W (raw (triple (by-none N none finished) 𝓤 H A .pre (to-none N none finished 𝓤 H A W))) (asked-none N none finished 𝓤 H A W   tt) $
+        nothing ! $ use1 W (raw (triple (by-none N none finished) 𝓤 H A .pre (to-none N none finished 𝓤 H A W))) (asked-none N none finished 𝓤 H A W tt) $
         calls-at ! fm (triple (by-none N none finished) 𝓤 H A) ends (to-none N none finished 𝓤 H A W) (no-more !) (λ v₄.
         replied (by-none N none finished) ! tt ((to-none N none finished 𝓤 H A W) .0) v₄ (‵ ftrue) (id⊢ 𝓤 _) (λ a ws₄ e₄. drop ! $ learnt ! (N) a v₄ (λ is₄. drop ! $
         land ! (from ! (stop !)) (init ! 11 refl (lands (N) 𝓤 H A W a v₄ is₄)) $ rewrite ! 11 (λ (u : Val). ‵ (fat fullShare (N .ty) l₀ 0 u)) (ap only (N .tells a (v₄ ∷ []) is₄)) refl $
