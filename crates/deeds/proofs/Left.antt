@@ -42,15 +42,6 @@ placedIn s b d c log = record { one = pick b d (s .one); two = pick b (s .two) d
 abbrev sessionWith : Session → ℕ → Dossier → Clipboard → Log → Session
 sessionWith s n d c log = placedIn s (eqb n 1) d c log
 
--- with its own dossiers
-abbrev sessionBut : Session → Clipboard → Log → Session
-sessionBut s c log = record { one = s .one; two = s .two; clipboard = c; signatures = s .signatures; log = log }
-
--- the dossier that it had
-same-dossier : (s : Session) (b : Bool) {d : Dossier} → d ≡ pick b (s .one) (s .two) → (c : Clipboard) (log : Log) → sessionBut s c log ≡ placedIn s b d c log
-same-dossier s true e c log = λ i. record { one = sym e i; two = s .two; clipboard = c; signatures = s .signatures; log = log }
-same-dossier s false e c log = λ i. record { one = s .one; two = sym e i; clipboard = c; signatures = s .signatures; log = log }
-
 module _ {s : Session} (h : SessionSound s) where
   pub numbered-sound : (n : ℕ) {d : Dossier} → d ≡ numberedIn n s → DossierSound d
   numbered-sound n e = subst DossierSound (sym e) (go (eqb n 1))
@@ -135,10 +126,3 @@ module _ {s : Session} {c : things.Clipboard} {r : Request} {messages : ℕ} (h 
         (with-sound h (eqb (r .dossier) 1) (run.edited (numbered k r) m c) (run.clipped (numbered k r) m b) (run.logged (r .user) messages (viewLog (s .log))))
         ∙ (λ i. left s (r .dossier) (run.edited (numbered (sym n i) r) (f i) c) (run.clipped (numbered (sym n i) r) (f i) b) (run.logged (r .user) (v .asks i) (viewLog (s .log)))
         (run.answered (numbered (sym n i) r) (found r (f i)) (attributeAt (r .path) (r .name) (f i))))
-
-    -- where it changes no dossier, the session keeps its own
-    pub leaves-both : {k : ℕ} → r .number ≡ k → d ≡ dossierOf (run.edited (numbered k r) (viewDossier d) c)
-        → {y : Clipboard} → y ≡ clipboardOf (run.clipped (numbered k r) (viewDossier d) (viewClipboard (s .clipboard)))
-        → {a : Answer} → a ≡ answerOf (run.answered (numbered k r) (found r (viewDossier d)) (attributeAt (r .path) (r .name) (viewDossier d)))
-        → stepped (sessionBut s y log) a ≡ carriedOf s r c
-    leaves-both n p {y} q {a} w = ap (λ (x : Session). stepped x a) (same-dossier s (eqb (r .dossier) 1) e y log) ∙ leaves n p q w

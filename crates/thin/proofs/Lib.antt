@@ -2,7 +2,6 @@ pub mod Parts
 pub mod Lends
 pub mod Law
 pub mod Walk
-pub mod Whole
 pub mod PartTwo
 pub mod PartNew
 pub mod PartLoad
