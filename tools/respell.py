@@ -83,8 +83,21 @@ def table(top):
     return new
 
 
-def turned(text, new, path):
-    """The text with its names respelled; a name behind a dot only if it is in camel case or a module stands before the dot."""
+def fields(top):
+    """The fields with hyphens that records of the repository declare."""
+    found = set()
+    for path in texts(top):
+        inside = False
+        for line in read(path).split("\n"):
+            inside = bool(re.match(r" *((pub|abbrev) )*record ", line)) or inside and line.startswith(" ")
+            m = inside and re.match(r" +(?:pub )?([^\s(){}.;,:]+-[^\s(){}.;,:]+) :", line)
+            if m:
+                found.add(m[1])
+    return found
+
+
+def turned(text, new, path, of_records=frozenset()):
+    """The text with its names respelled; a name behind a dot only if it is in camel case, a field of a record, or a module's."""
     here = {n for n, kind in declared(text) if is_of_function(path) and kind.startswith(GENERATED)}
     modules = {m[3] for m in USE.finditer(text) if m[3] and not m[1].endswith((".Tie", ".Goals", ".Given"))}
     out, last, before = [], 0, ""
@@ -92,7 +105,9 @@ def turned(text, new, path):
         word, gap = m[0], text[last : m.start()]
         out.append(gap)
         to = new.get(word)
-        if to and "-" in word and (word in here or gap == "." and before not in modules and not before[:1].isupper()):
+        if gap == "." and word in of_records:
+            to = snake(word)
+        elif to and "-" in word and (word in here or gap == "." and before not in modules and not before[:1].isupper()):
             to = None
         out.append(to or word)
         last, before = m.end(), word
@@ -137,11 +152,12 @@ def met_in_source(path, text, new):
 def main():
     top = sys.argv[1] if len(sys.argv) > 1 else "."
     new = table(top)
+    of_records = fields(top)
     falls, names = [], set()
     for path in texts(top):
         text = read(path)
         falls += met(path, text, new)
-        write(path, turned(text, new, path))
+        write(path, turned(text, new, path, of_records))
         names |= {n for n, kind in declared(read(path)) if not kind.startswith(GENERATED)}
         names |= {m[1] for m in re.finditer(r"(?m)^  (?:pub )?([a-z]\w*) :", read(path))}
     for path in sorted(glob.glob(os.path.join(top, "crates/*/src/**/*.rt"), recursive=True) + glob.glob(os.path.join(top, "crates/*/must-fail/*.edit"))):

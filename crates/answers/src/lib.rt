@@ -1,4 +1,6 @@
 // Answers as lines, with no output. A line is put into a lent buffer from `at` on; each function answers the place behind it. What finds no room is left out.
+#![tactic(auto)]
+
 use encode::pattern_of;
 use state::{Answer, Outcome};
 use tables::{Names, Value};

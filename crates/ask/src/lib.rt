@@ -1,4 +1,6 @@
 // Ask: one decision on an image, for a front end in C that greys out its menus. It builds no session and keeps nothing.
+#![tactic(auto)]
+
 ghost use Rattle.std.specs.Prelude.{◌≡◌, T};
 ghost use Rattle.path.specs.Address.{valid};
 ghost use Rattle.path.specs.View.{steps, asked, PathSound};
@@ -20,7 +22,7 @@ use path::{Path, RawPath, is_valid, path_of};
 use tables::{Dossier, Owner};
 
 // What is asked, as it came: any numbers. Name 0 is the node at the path.
-#[derive(Drop)]
+#[derive(Clone, Copy)]
 pub struct Question {
     pub subject: Subject,
     pub path: RawPath,
@@ -29,7 +31,7 @@ pub struct Question {
 }
 
 // A refusal's number; or granted, with the messages to log and the agreements to be signed.
-#[derive(Drop)]
+#[derive(Clone, Copy)]
 pub enum Verdict {
     Refused(u8),
     Granted(u32, u32),

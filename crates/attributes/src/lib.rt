@@ -1,4 +1,6 @@
 // The table of attributes: how it changes. Every function changes its copy of the table in place, and no table is passed on inside a loop.
+#![tactic(auto)]
+
 ghost use Rattle.std.specs.Prelude.{◌≡◌, ◌&&◌, [], ◌∷◌, ◌+◌, ◌-◌, ◌≤◌, ◌<◌, eqb, length, get_or};
 ghost use Rattle.std.proofs.Math.Option.{none};
 ghost use Rattle.laws.specs.Sorted.{insert, merge, move};

@@ -1,4 +1,6 @@
 // A dossier filled to every bound of document 01: what it holds, in image order, and what is decided at the edges.
+#![tactic(auto)]
+
 ghost use Rattle.tables.specs.View.{NodesSound, AttributesSound, PermissionsSound};
 
 use crate::show::line;

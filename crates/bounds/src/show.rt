@@ -8,7 +8,7 @@ use path::Path;
 use tables::{Attribute, Attributes, Grant, Node, Nodes, Permission, Permissions, Span, Value};
 
 // A time, in a struct.
-#[derive(Drop)]
+#[derive(Clone, Copy)]
 pub struct Time {
     pub seconds: i64,
 }

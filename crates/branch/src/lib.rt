@@ -1,4 +1,6 @@
 // Request 17's image: what load gives of it, every owner the adding user's; refused with its first permission where none before that is bad.
+#![tactic(auto)]
+
 ghost use Rattle.std.specs.Prelude.{◌≡◌, map, ◌/◌, length};
 ghost use Rattle.model.specs.Image as images;
 ghost use Rattle.tables.specs.View.{view_nodes, nodes_of, NodesSound, view_attributes, attributes_of, AttributesSound, view_dossier, dossier_of, DossierFits};

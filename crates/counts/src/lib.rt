@@ -1,4 +1,6 @@
 // What is counted in a table, of a branch or of children, reads every row; and whether a count is above its bound.
+#![tactic(auto)]
+
 ghost use Rattle.std.specs.Prelude.{◌≡◌, max, length};
 ghost use Rattle.path.specs.Address.{off};
 ghost use Rattle.path.specs.View.{steps, PathSound};

@@ -1,5 +1,7 @@
 // Who may do what: the decision part. It answers when a request is granted and with which provisions, and knows nothing of
 // sessions, signatures and logs.
+#![tactic(auto)]
+
 ghost use Rattle.std.specs.Prelude.{◌≡◌, eqb};
 ghost use Rattle.laws.specs.Slots.{pick};
 ghost use Rattle.path.specs.Address.{parent};
@@ -18,7 +20,7 @@ use path::{Path, parent_of};
 use tables::{Attributes, Dossier, Found, Nodes, Owner, Permissions};
 
 // What a request's needs look at.
-#[derive(Drop)]
+#[derive(Clone, Copy)]
 pub struct Asked {
     pub number: u8,
     pub subject: Subject,
@@ -146,7 +148,7 @@ pub fn delegate(d: Dossier, p: Path, name: u16, s: Subject) -> Decision
 // ---- the needs of a request: whose what it looks at is, and what the permissions then give
 
 // Whose the node at the path is, the node above it, the attribute of the name there.
-#[derive(Drop)]
+#[derive(Clone, Copy)]
 pub struct Owners {
     pub node: Owner,
     pub parent: Owner,

@@ -22,7 +22,7 @@ use tables::{Attribute, Attributes, Clipboard, Dossier, Permission, Permissions}
 
 // A request that was judged: what it does (0: nothing, it is refused), the dossier that it names, its refusal, the messages to log, and the
 // request.
-#[derive(Drop)]
+#[derive(Clone, Copy)]
 pub struct Verdict {
     pub class: u8,
     pub dossier: u8,
@@ -32,19 +32,19 @@ pub struct Verdict {
 }
 
 // The number of a dossier, and what stands under it.
-#[derive(Drop)]
+#[derive(Clone, Copy)]
 pub struct DossierOut {
     pub dossier: u8,
     pub whole: Dossier,
 }
 
-#[derive(Drop)]
+#[derive(Clone, Copy)]
 pub struct AttributesOut {
     pub dossier: u8,
     pub attributes: Attributes,
 }
 
-#[derive(Drop)]
+#[derive(Clone, Copy)]
 pub struct PermissionsOut {
     pub dossier: u8,
     pub permissions: Permissions,

@@ -1,5 +1,7 @@
 // The editor as a program: calls, one to a line, from the file named as its argument or from standard input; each is made on one session
 // and answered by a line.
+#![tactic(auto)]
+
 use crate::answering::answer_line;
 use files::reading::{fresh_reader, next_line};
 use libc::STDIN_FILENO;

@@ -93,4 +93,4 @@ no_object p n d s h e r m t =
     let w = both (same r.0 p) (eqb r.1.0 n) t in
     no_object_at p n d h e
     (subst (λ (k : ℕ). T (there (object_at p k d))) (eqb→eq r.1.0 n w.1)
-    (subst (λ (q : Address). T (there (object_at q r.1.0 d))) (same_eq r.0 p w.0) (s.on-object r m)))
+    (subst (λ (q : Address). T (there (object_at q r.1.0 d))) (same_eq r.0 p w.0) (s.on_object r m)))

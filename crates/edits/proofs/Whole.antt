@@ -42,7 +42,7 @@ object_node p n d s = go (eqb n 0)
   where
     go : (b : Bool) → T (there (pick b (node_at p d) (attribute_object p n d))) → T (there (node_at p d))
     go true t = t
-    go false t = let w = attribute_in_lem p n d (subst T (there_map _ (attribute_at p n d)) t) in s.on-node (p, w.0) w.1
+    go false t = let w = attribute_in_lem p n d (subst T (there_map _ (attribute_at p n d)) t) in s.on_node (p, w.0) w.1
 
 module _ (q : Address) (d : things.Dossier) (s : Sound d) (h : length q + deepest d.nodes ≤ 6) where
   shallow_at : (p : Address) → T (there (node_at p d)) → length q + length p ≤ 6
@@ -52,7 +52,7 @@ module _ (q : Address) (d : things.Dossier) (s : Sound d) (h : length q + deepes
   nodes_shallow r m = let k = in_deepest r d.nodes m in omega arith
 
   pub attributes_shallow : Shallow q d.attributes
-  attributes_shallow r m = shallow_at r.0 (s.on-node r m)
+  attributes_shallow r m = shallow_at r.0 (s.on_node r m)
 
   pub permissions_shallow : Shallow q d.permissions
-  permissions_shallow r m = shallow_at r.0 (object_node r.0 r.1.0 d s (s.on-object r m))
+  permissions_shallow r m = shallow_at r.0 (object_node r.0 r.1.0 d s (s.on_object r m))

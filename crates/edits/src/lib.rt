@@ -1,4 +1,6 @@
 // How a whole dossier changes: an object goes with its owner and its permissions. Also what the clipboard takes and gives.
+#![tactic(auto)]
+
 ghost use Rattle.std.specs.Prelude.{◌≡◌, ◌<◌, length};
 ghost use Rattle.std.proofs.Math.Option.{some};
 ghost use Rattle.path.specs.Address.{up};

@@ -1,4 +1,6 @@
 // Numbers and records of forty bytes into a lent buffer.
+#![tactic(auto)]
+
 ghost use Rattle.std.specs.Prelude.{◌≡◌, [], ◌∷◌, ◌++◌, ◌+◌, ◌≤◌, length, replicate};
 ghost use Rattle.std.specs.Float.Ieee.{to_bits};
 ghost use Rattle.std.specs.Float.{binary32};

@@ -1,5 +1,7 @@
 // The enforcing part, by value and by the parts of a session that it looks at: a request is weighed against the refusal table, and request 17's image
 // becomes what there is to paste. What is done about it is deeds'.
+#![tactic(auto)]
+
 ghost use Rattle.std.specs.Prelude.{◌≡◌, not, ◌≤◌, T, eqb};
 ghost use Rattle.model.specs.Image.{load_added};
 ghost use Rattle.model.specs.Run as run;
@@ -20,7 +22,7 @@ use state::{Agreements, Answer, Log, Outcome, Request, plain};
 use tables::{Clipboard, Dossier};
 
 // Request 17's image as a branch; or a bad one, and the answer to it.
-#[derive(Drop)]
+#[derive(Clone, Copy)]
 pub struct Laden {
     pub good: bool,
     pub request: Request,

@@ -9,7 +9,7 @@ use grants::Subject;
 use state::Session;
 
 // A time, in a struct.
-#[derive(Drop)]
+#[derive(Clone, Copy)]
 struct Time {
     seconds: i64,
 }

@@ -1,4 +1,5 @@
 // Document 01's thirteen examples, run: what the code answers, in the document's order and words.
+#![tactic(auto)]
 
 mod addresses;
 mod calls;

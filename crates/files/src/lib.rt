@@ -1,4 +1,6 @@
 // Images from files and to files; the lines of a script stand in `reading`.
+#![tactic(auto)]
+
 use answers::put_text;
 use lines::whys::NOT_READ;
 use words::hex::{Count, hex_in};
@@ -7,7 +9,7 @@ use words::{Word, starts_with, word_of};
 pub mod reading;
 
 // How many bytes an image has; `why` is not 0 where it is none.
-#[derive(Drop)]
+#[derive(Clone, Copy)]
 pub struct Image {
     pub len: usize,
     pub why: u8,

@@ -1,7 +1,7 @@
 // Lines from a file that is read in pieces.
 
 // Of the piece, the bytes from `at` up to `got` are left. The line has `len` bytes, and is `long` where that is more than is held.
-#[derive(Drop)]
+#[derive(Clone, Copy)]
 pub struct Reader {
     pub at: usize,
     pub got: usize,
@@ -11,7 +11,7 @@ pub struct Reader {
 }
 
 // How far a piece was taken: up to the end of a line, or all of it.
-#[derive(Drop)]
+#[derive(Clone, Copy)]
 struct Taken {
     reader: Reader,
     whole: bool,

@@ -1,4 +1,6 @@
 // Permissions: one against a subject or another permission, and those of one object.
+#![tactic(auto)]
+
 ghost use Rattle.std.specs.Prelude.{◌≡◌, [], ◌∷◌};
 ghost use Rattle.path.specs.View.{steps, PathSound};
 ghost use Rattle.model.specs.Decide as model;
@@ -12,7 +14,7 @@ use tables::place::object_before;
 use tables::{Grant, Permissions};
 
 // Who asks, in which role, when.
-#[derive(Drop)]
+#[derive(Clone, Copy)]
 pub struct Subject {
     pub role: u8,
     pub user: u8,
@@ -20,7 +22,7 @@ pub struct Subject {
 }
 
 // Not granted; or granted, with the messages to log and the agreements to be signed.
-#[derive(Drop)]
+#[derive(Clone, Copy)]
 pub enum Decision {
     Denied,
     Granted(u32, u32),
@@ -100,7 +102,7 @@ pub fn covers(s: Subject, g: Grant, c: Grant) -> bool
 // ---- the permissions of one object
 
 // What the object's permissions give the subject, for each action that is granted by one: the first that matches.
-#[derive(Drop)]
+#[derive(Clone, Copy)]
 pub struct Walk {
     pub read: Decision,
     pub change: Decision,
@@ -167,7 +169,7 @@ pub fn walked(t: Permissions, p: Path, name: u16, s: Subject) -> Walk
 }
 
 // Of the object's permissions against g: whether one is g itself, one covers it for the subject, one clashes with it.
-#[derive(Drop)]
+#[derive(Clone, Copy)]
 pub struct Weights {
     pub held: bool,
     pub covered: bool,

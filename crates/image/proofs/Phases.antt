@@ -228,7 +228,7 @@ permissions_begin {b} {n} {k} {nodes} {attributes} {t} u e =
       sound = record { model = []; same = e; fits = record { room = omega arith; each = tt; ascend = nil } };
       upto = subst (λ (l : List (Row (ℕ × things.Permission))). Upto b k (record { nodes = view_nodes nodes; attributes = view_attributes attributes; permissions = l })) (sym w) u.read.upto;
       no_node = u.read.no_node;
-      no_attribute_lem = u.no-attribute;
+      no_attribute_lem = u.no_attribute;
     }
 
 module _ {b : List ℕ} {n k : ℕ} {nodes : Nodes} {attributes : Attributes} {t : Permissions} (u : PermissionsUpto b n k nodes attributes t) (s : parsed.Record) (e : s ≡ record_of (record_at k b)) where
@@ -237,7 +237,7 @@ module _ {b : List ℕ} {n k : ℕ} {nodes : Nodes} {attributes : Attributes} {t
 
   -- no permission, and no other record either
   other_breaks : k < n → (s.kind ≡ 3 → ⊥) → Breaks b n k
-  other_breaks c f = breaks_none b k all u.upto n c (is_none (record_at k b) e (u.no_node c) (u.no-attribute c) f)
+  other_breaks c f = breaks_none b k all u.upto n c (is_none (record_at k b) e (u.no_node c) (u.no_attribute c) f)
 
   module _ (h : s.kind ≡ 3) where
     abbrev permission : IsPermission (record_at k b) s

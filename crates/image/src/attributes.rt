@@ -17,7 +17,7 @@ use tables::{Attribute, Attributes, Nodes, no_attributes};
 
 // ok: all records before `next` are good and the table holds the attributes; record `next` is no attribute, or there is none. Else
 // record `next` is bad. Counted from 0.
-#[derive(Drop)]
+#[derive(Clone, Copy)]
 pub struct AttributesRead {
     pub ok: bool,
     pub next: usize,

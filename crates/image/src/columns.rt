@@ -8,7 +8,7 @@ use path::key;
 use tables::{Attributes, Nodes};
 
 // Of attributes: the numbers of their paths, and their names beside them.
-#[derive(Drop)]
+#[derive(Clone, Copy)]
 pub struct Objects {
     pub keys: [u64; 256],
     pub names: [u16; 256],

@@ -1,5 +1,7 @@
 // Load: any bytes to a dossier, or the number of the first bad record. Records ascend, so that nodes come first, then attributes,
 // then permissions, and each row is put behind those that are there.
+#![tactic(auto)]
+
 ghost use Rattle.std.specs.Prelude.{◌≡◌, ◌||◌, not, ◌%◌, eqb, ltb};
 ghost use Rattle.model.specs.Image as images;
 ghost use Rattle.image.specs.View.{loaded_of};
@@ -16,7 +18,7 @@ pub mod permissions;
 pub mod records;
 
 // A dossier, or the record that is bad: 0 for a bad length. The dossier of a bad image has no rows.
-#[derive(Drop)]
+#[derive(Clone, Copy)]
 pub struct Loaded {
     pub good: bool,
     pub record: usize,

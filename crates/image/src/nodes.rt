@@ -15,7 +15,7 @@ use path::{Path, child_of, key, last_step, parent_of, size};
 use tables::{Node, Nodes, no_nodes};
 
 // ok: `next` records are good nodes and the table holds them; record `next` is no node, or there is none. Else record `next` is bad. Counted from 0.
-#[derive(Drop)]
+#[derive(Clone, Copy)]
 pub struct NodesRead {
     pub ok: bool,
     pub next: usize,

@@ -14,7 +14,7 @@ use path::{Path, is_same, key};
 use tables::{Attributes, Nodes, Permission, Permissions, no_permissions};
 
 // ok: all records are good and the table holds the permissions. Else record `next` is bad. Counted from 0.
-#[derive(Drop)]
+#[derive(Clone, Copy)]
 pub struct PermissionsRead {
     pub ok: bool,
     pub next: usize,

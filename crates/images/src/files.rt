@@ -3,7 +3,7 @@ ghost use Rattle.std.specs.Prelude.{◌≡◌, ◌<◌, length};
 ghost use Rattle.io.specs.Counts.{IsPrefixLen};
 
 // A number of four bytes, or that the file has ended.
-#[derive(Drop)]
+#[derive(Clone, Copy)]
 pub struct Head {
     pub there: bool,
     pub n: usize,

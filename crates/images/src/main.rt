@@ -1,4 +1,6 @@
 // Load and save on images: those of the vectors, one at every bound, and one with a byte damaged.
+#![tactic(auto)]
+
 mod damage;
 mod files;
 mod saved;

@@ -10,14 +10,14 @@ const MOST: usize = 100000;
 // ---- good images
 
 // What came of one image; there false: the file has ended.
-#[derive(Drop)]
+#[derive(Clone, Copy)]
 struct Tried {
     there: bool,
     records: usize,
     wrong: usize,
 }
 
-#[derive(Drop)]
+#[derive(Clone, Copy)]
 struct Tally {
     images: usize,
     records: usize,
@@ -95,7 +95,7 @@ pub fn good() {
 // ---- bad images
 
 // What was blamed, and whether that is wrong; a good answer is wrong.
-#[derive(Drop)]
+#[derive(Clone, Copy)]
 struct Blamed {
     there: bool,
     record: usize,

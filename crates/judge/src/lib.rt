@@ -1,9 +1,11 @@
 // Whether a request is refused. Judging changes nothing: it looks at the dossier that the request names, at what the clipboard holds, at the
 // user's row of agreements and at the length of the log.
+#![tactic(auto)]
+
 pub mod table;
 
 // Refused, with the number; or allowed, with the messages to log.
-#[derive(Drop)]
+#[derive(Clone, Copy)]
 pub enum Judged {
     Refused(u8),
     Allowed(u32),

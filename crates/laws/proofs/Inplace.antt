@@ -38,7 +38,7 @@ module _ {S M : Type 0} {of : M → S} {P : M → Type 0} {n : ℕ} {b : S} {row
 
   pub held_blank : (k : ℕ) → count ≤ k → drop k rows ≡ replicate (n - k) b
   held_blank k c =
-      let e = length-map h.model of in let s = h.count-is in ap (drop k) h.rows_are ∙ slots_blank n b (map of h.model) k (omega arith)
+      let e = length-map h.model of in let s = h.count_is in ap (drop k) h.rows_are ∙ slots_blank n b (map of h.model) k (omega arith)
 
   pub held_size : (v : S → M) → length (map v (take count rows)) ≡ count
   held_size v = length-map (take count rows) v ∙ length-take-le count rows (held_full of P n b rows count h)
@@ -63,7 +63,7 @@ module _ {S M : Type 0} {of : M → S} {P : M → Type 0} {n : ℕ} {b : S} {row
     pub held_first : (k : ℕ) → k ≤ count → map of (take k (map v (take count rows))) ≡ take k rows
     held_first k c =
         let e = length-map h.model of in
-        let f = h.count-is in
+        let f = h.count_is in
         ap (λ l. map of (take k l)) (held_seen of v back P n b rows count h) ∙ map_take of k h.model
         ∙ sym (ap (take k) h.rows_are ∙ take-append-le k (map of h.model) (replicate (n - length (map of h.model)) b) (omega arith))
 
@@ -71,7 +71,7 @@ module _ {S M : Type 0} {of : M → S} {P : M → Type 0} {n : ℕ} {b : S} {row
     pub held_store : {T : Type 0} (mk : List S → ℕ → T) (i : ℕ) (y : M) (s : S) → i < count → s ≡ of y
         → mk (set rows i s) count ≡ mk (slots n b (map of (set (map v (take count rows)) i y))) (length (set (map v (take count rows)) i y))
     held_store mk i y s c e =
-        let f = h.count-is in
+        let f = h.count_is in
         let g = length-map h.model of in
         let k = length-map (set h.model i y) of in
         let j = length-set h.model i y in

@@ -90,8 +90,12 @@ module _ {A : Type 0} (lt : A → A → Bool) (o : StrictOrder lt) where
   merge_old (x ∷ xs) z l h = insert_old x z (merge lt xs l) (merge_old xs z l h)
 
   pub merge_new : (xs : List A) (z : A) (l : List A) → z ∈ xs → z ∈ merge lt xs l
-  merge_new xs z l (Memᴰ.head {x} {xs = ys} e) = Memᴰ.cast e (insert_new x (merge lt ys l))
-  merge_new xs z l (Memᴰ.tail {x} {xs = ys} h) = insert_old x z (merge lt ys l) (merge_new ys z l h)
+  merge_new [] z l h = absurd (Memᴰ.not-nil h)
+  merge_new (x ∷ xs) z l h = go (merge_new xs z l) (Memᴰ.cases_cons h)
+    where
+      go : (z ∈ xs → z ∈ merge lt xs l) → (z ≡ x) ⊎ (z ∈ xs) → z ∈ merge lt (x ∷ xs) l
+      go f (inl e) = Memᴰ.cast e (insert_new x (merge lt xs l))
+      go f (inr m) = insert_old x z (merge lt xs l) (f m)
 
   pub merge_back : (xs : List A) (z : A) (l : List A) → z ∈ merge lt xs l → (z ∈ xs) ⊎ (z ∈ l)
   merge_back [] z l h = inr h

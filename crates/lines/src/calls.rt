@@ -41,7 +41,7 @@ pub const HELP: u8 = 29;
 
 // The request has the operands of every call that are named as its own; an owner is its user. The word is an image or a file's name,
 // and empty where a request names no image.
-#[derive(Drop)]
+#[derive(Clone, Copy)]
 pub struct Call {
     pub kind: u8,
     pub why: u8,

@@ -1,4 +1,6 @@
 // What is found in a table: its rows are in order, so that a lookup halves them.
+#![tactic(auto)]
+
 ghost use Rattle.std.specs.Prelude.{◌≡◌, ◌≤◌, length};
 ghost use Rattle.path.specs.View.{steps, PathSound};
 ghost use Rattle.model.specs.Moves.{owner_in, called, attribute_in, permissions_in, names_in, holds};
@@ -151,7 +153,7 @@ pub fn count_on(t: Attributes, p: Path) -> usize
 
 // ---- what a request looks at on a node: the attribute of its name, and how many there are
 
-#[derive(Drop)]
+#[derive(Clone, Copy)]
 pub struct Held {
     pub found: Found,
     pub names: usize,

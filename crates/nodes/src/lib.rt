@@ -1,4 +1,6 @@
 // The table of nodes: how it changes. Every function changes its copy of the table in place, and no table is passed on inside a loop.
+#![tactic(auto)]
+
 ghost use Rattle.std.specs.Prelude.{◌≡◌, [], ◌∷◌, ◌+◌, ◌-◌, ◌≤◌, ◌<◌, length};
 ghost use Rattle.laws.specs.Sorted.{insert, merge};
 ghost use Rattle.path.specs.Address.{down, off};

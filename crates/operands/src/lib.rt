@@ -1,4 +1,6 @@
 // Refusal 1: the operands that a request uses, for any numbers at all.
+#![tactic(auto)]
+
 ghost use Rattle.std.specs.Prelude.{◌≡◌, ◌&&◌, leb};
 ghost use Rattle.std.specs.Int.Signed.{le_z};
 ghost use Rattle.model.specs.Refusals as refusals;

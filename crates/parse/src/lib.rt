@@ -1,4 +1,6 @@
 // One record of an image from its forty bytes. Each kind has its rule: the used fields are in their ranges, the others are 0.
+#![tactic(auto)]
+
 ghost use Rattle.std.specs.Prelude.{◌≡◌, ◌≤◌, length};
 ghost use Rattle.model.specs.Image as images;
 ghost use Rattle.tables.specs.View.{view_grant, grant_of};
@@ -12,14 +14,14 @@ use tables::{Grant, Span, Value, blank_permission};
 pub mod numbers;
 
 // A value, or that a kind and its bits are none.
-#[derive(Drop)]
+#[derive(Clone, Copy)]
 pub enum Valued {
     Is(Value),
     Not,
 }
 
 // Kind 1 is a node, 2 an attribute, 3 a permission, 0 no record; the parts that a kind does not use are blank.
-#[derive(Drop)]
+#[derive(Clone, Copy)]
 pub struct Record {
     pub kind: u8,
     pub path: Path,

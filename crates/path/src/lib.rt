@@ -5,6 +5,8 @@
 // Only this crate looks at the steps of a `Path`. A host's bytes are a `RawPath`, which `is_valid` takes as it comes and `path_of`
 // packs; an image's are packed by `path_at` and unpacked by `put_path`. The other functions are called with paths that stand for
 // an address (`PathSound`).
+#![tactic(auto)]
+
 ghost use Rattle.std.specs.Prelude.{◌≡◌, [], ◌∷◌, ◌+◌, ◌-◌, ◌*◌, ◌^◌, ◌<◌, ◌≤◌, T, length, get_or, take, drop};
 ghost use Rattle.laws.specs.Slots.{put};
 ghost use Rattle.path.specs.Address.{valid, same, before, under, beside, parent, last, child, up, fall, down, off, on, in_depth};
@@ -12,20 +14,20 @@ ghost use Rattle.path.specs.Bytes.{step_bytes, read_steps, step_fits};
 ghost use Rattle.path.specs.Packed.{pack};
 ghost use Rattle.path.specs.View.{steps, asked, path_of, PathSound, moved_of, key_of, digit_of, raw_of};
 
-#[derive(Drop)]
+#[derive(Clone, Copy)]
 pub struct Path {
     pub key: u64,
 }
 
 // A path as a host gives it: any bytes.
-#[derive(Drop)]
+#[derive(Clone, Copy)]
 pub struct RawPath {
     pub len: u8,
     pub steps: [u8; 6],
 }
 
 // A path, or none: `there` is false, and the path is the root's.
-#[derive(Drop)]
+#[derive(Clone, Copy)]
 pub struct Moved {
     pub there: bool,
     pub path: Path,

@@ -1,4 +1,6 @@
 // Each test of the refusal table by itself, and what the tests look at.
+#![tactic(auto)]
+
 ghost use Rattle.std.specs.Prelude.{◌≡◌};
 ghost use Rattle.model.specs.Run as run;
 ghost use Rattle.tables.specs.View.{view_clipboard, ClipboardSound};
@@ -14,7 +16,7 @@ pub mod place;
 pub mod room;
 
 // A request whose path is one: what its tests and its deed look at.
-#[derive(Drop)]
+#[derive(Clone, Copy)]
 pub struct Placed {
     pub number: u8,
     pub dossier: u8,
@@ -30,7 +32,7 @@ pub struct Placed {
 // What the tests look at in a dossier, all that is left of it for them: whose the node is and the node above, how many children that has, the
 // attribute of the name and how many the node has, how many rows each table has; what is granted; and whether the object has the permission
 // itself, one that covers it, one that clashes with it.
-#[derive(Drop)]
+#[derive(Clone, Copy)]
 pub struct Seen {
     pub node: Owner,
     pub parent: Owner,
@@ -47,7 +49,7 @@ pub struct Seen {
 }
 
 // What there is to paste, on the clipboard or in request 17's image: whether a branch, whether an attribute, its sizes, the steps of its longest path.
-#[derive(Drop)]
+#[derive(Clone, Copy)]
 pub struct Cache {
     pub branch: bool,
     pub attribute: bool,
@@ -58,7 +60,7 @@ pub struct Cache {
 }
 
 // Whether there is room on every shelf; or the first that would be full, by its refusal.
-#[derive(Drop)]
+#[derive(Clone, Copy)]
 pub enum Shelf {
     Room,
     Full(u8),

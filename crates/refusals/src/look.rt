@@ -18,7 +18,7 @@ use path::{Path, parent_of};
 use tables::{Attributes, Dossier, Found, Nodes, Owner, Permissions};
 
 // Whose the node is, whose the node above, and how many children that has.
-#[derive(Drop)]
+#[derive(Clone, Copy)]
 pub struct Around {
     pub node: Owner,
     pub parent: Owner,

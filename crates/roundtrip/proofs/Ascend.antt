@@ -194,16 +194,16 @@ records_ascend d s =
     ascend_from (sorted_append nodes (sorted_append attributes permissions last) first)
   where
     one_each : OneEach d.attributes
-    one_each r t h k e n = let m = s.one-attribute r.0 r.1 t.1 h (Memᴰ.cast (λ i. (e i, t.1)) k) n in λ i. (e i, m i)
+    one_each r t h k e n = let m = s.one_attribute r.0 r.1 t.1 h (Memᴰ.cast (λ i. (e i, t.1)) k) n in λ i. (e i, m i)
 
     nodes : Sorted less_record (map node_record d.nodes)
-    nodes = map_sorted before_node less_record node_record node_less s.nodes-ascend
+    nodes = map_sorted before_node less_record node_record node_less s.nodes_ascend
 
     attributes : Sorted less_record (map attribute_record d.attributes)
-    attributes = attributes_sorted one_each s.attributes-ascend
+    attributes = attributes_sorted one_each s.attributes_ascend
 
     permissions : Sorted less_record (map permission_record d.permissions)
-    permissions = map_sorted_on permission_record (λ a b h k. permission_less a b (s.permissions-good a h) (s.permissions-good b k)) s.permissions-ascend
+    permissions = map_sorted_on permission_record (λ a b h k. permission_less a b (s.permissions_good a h) (s.permissions_good b k)) s.permissions_ascend
 
     last : (x y : Record) → x ∈ map attribute_record d.attributes → y ∈ map permission_record d.permissions → T (less_record x y)
     last x y h k =

@@ -50,7 +50,7 @@ module _ (a : Attribute) (l : List Permission) (s : SoundSingle a l) where
     where
       clear : (h : Permission) → h ∈ k → T (clash g h) → ⊥
       clear h n t =
-          let z = s.no-clash g h (cut_here k g m e) (cut_before k g m e h n) t in cut_once k g m e permission_order s.ascend (Memᴰ.cast z n)
+          let z = s.no_clash g h (cut_here k g m e) (cut_before k g m e h n) t in cut_once k g m e permission_order s.ascend (Memᴰ.cast z n)
 
   pub single_loads : load_from accept_cached none (save_clipboard (single a l)) ≡ good (some (a, l))
   unfolding grant held
@@ -61,14 +61,14 @@ module _ (a : Attribute) (l : List Permission) (s : SoundSingle a l) where
       (some (a, []), refl, table_runs accept_cached held grant permission_order l s.ascend grant_accepted)
     where
       ranges : Ranges (attribute_record ([], a) ∷ map grant l)
-      ranges = ranges_more (attribute_record ([], a)) (map grant l) s.attribute-good (ranges_map grant l s.permissions-good)
+      ranges = ranges_more (attribute_record ([], a)) (map grant l) s.attribute_good (ranges_map grant l s.permissions_good)
 
       first : (r : Record) → r ∈ map grant l → T (less_record (attribute_record ([], a)) r)
       first r h = let w = Memᴰ.of_map grant l h in subst (λ (x : Record). T (less_record (attribute_record ([], a)) x)) w.2 (attribute_first ([], a) (grant_row [] a.name w.0))
 
       grants : Sorted less_record (map grant l)
       grants = map_sorted_on grant
-          (λ g h m n t. permission_less (grant_row [] a.name g) (grant_row [] a.name h) (s.permissions-good g m) (s.permissions-good h n)
+          (λ g h m n t. permission_less (grant_row [] a.name g) (grant_row [] a.name h) (s.permissions_good g m) (s.permissions_good h n)
           (lex2_right before address_order [] [] (lt_pair ltb lt_permission (a.name, g) (a.name, h)) refl (lex2_right ltb nat_order a.name a.name (lt_permission g h) refl t)))
           s.ascend
 

@@ -42,12 +42,12 @@ module _ (d : Dossier) (s : Sound d) (r : Row ℕ) (g : T (in_range (node_record
       let a = there (node_at (parent r.0) d) in
       let b = eqb (last r.0) 1 || there (node_at (left r.0) d) in
       record {
-        nodes_ascend = insert_sorted before_node nodes_order r s.nodes-ascend;
-        attributes_ascend = s.attributes-ascend;
-        permissions_ascend = s.permissions-ascend;
-        nodes_good = λ z h. new_or_old (λ y. T (in_range (node_record y))) r z d.nodes g s.nodes-good (back z h);
-        attributes_good = s.attributes-good;
-        permissions_good = s.permissions-good;
+        nodes_ascend = insert_sorted before_node nodes_order r s.nodes_ascend;
+        attributes_ascend = s.attributes_ascend;
+        permissions_ascend = s.permissions_ascend;
+        nodes_good = λ z h. new_or_old (λ y. T (in_range (node_record y))) r z d.nodes g s.nodes_good (back z h);
+        attributes_good = s.attributes_good;
+        permissions_good = s.permissions_good;
         root = more [] s.root;
         above = λ z h. new_or_old (λ y. T (is_root y.0 || there (node_at (parent y.0) node_more))) r z d.nodes
             (or_else (is_root r.0) (a && b) (there (node_at (parent r.0) node_more)) (λ n u. more (parent r.0) (and_yes a b u).0) parts.1)
@@ -56,15 +56,15 @@ module _ (d : Dossier) (s : Sound d) (r : Row ℕ) (g : T (in_range (node_record
             (or_else (is_root r.0) (a && b) (eqb (last r.0) 1 || there (node_at (left r.0) node_more)) (λ n u. left_more r.0 (and_yes a b u).1) parts.1)
             (λ y k. or_else (is_root y.0) (eqb (last y.0) 1 || there (node_at (left y.0) d)) (eqb (last y.0) 1 || there (node_at (left y.0) node_more))
             (λ n u. left_more y.0 u) (s.left_there_lem y k)) (back z h);
-        on_node_lem = λ z h. more z.0 (s.on-node z h);
-        on_object = λ z h. object_kept z.0 z.1.0 d node_more (more_nodes z.0) (λ x m. m) (s.on-object z h);
+        on_node_lem = λ z h. more z.0 (s.on_node z h);
+        on_object = λ z h. object_kept z.0 z.1.0 d node_more (more_nodes z.0) (λ x m. m) (s.on_object z h);
         one_node = λ q o o' h h'. one q o o' (back (q, o) h) (back (q, o') h');
-        one_attribute = s.one-attribute;
-        no_clash = s.no-clash;
+        one_attribute = s.one_attribute;
+        no_clash = s.no_clash;
         few_nodes = let k = ltb→lt (length d.nodes) 64 parts.2 in omega (arith, insert_one before_node r d.nodes);
-        few_attributes = s.few-attributes;
-        few_on_node = s.few-on-node;
-        few_permissions = s.few-permissions;
+        few_attributes = s.few_attributes;
+        few_on_node = s.few_on_node;
+        few_permissions = s.few_permissions;
       }
     where
       more_nodes : (q : Address) (o : ℕ) → (q, o) ∈ d.nodes → (q, o) ∈ insert before_node r d.nodes
@@ -89,7 +89,7 @@ module _ (d : Dossier) (s : Sound d) (r : Row ℕ) (g : T (in_range (node_record
       one q o o' (inl e) (inl e') = λ i. ((e ∙ sym e') i).1
       one q o o' (inl e) (inr h) = absurd (T_not (there (node_at r.0 d)) parts.0 (subst (λ (x : Address). T (there (node_at x d))) (λ i. (e i).0) (node_there q o' d h)))
       one q o o' (inr h) (inl e) = absurd (T_not (there (node_at r.0 d)) parts.0 (subst (λ (x : Address). T (there (node_at x d))) (λ i. (e i).0) (node_there q o d h)))
-      one q o o' (inr h) (inr h') = s.one-node q o o' h h'
+      one q o o' (inr h) (inr h') = s.one_node q o o' h h'
 
       left_more : (q : Address) → T (eqb (last q) 1 || there (node_at (left q) d)) → T (eqb (last q) 1 || there (node_at (left q) node_more))
       left_more q u = or_else (eqb (last q) 1) (there (node_at (left q) d)) (there (node_at (left q) node_more)) (λ n v. more (left q) v) u
@@ -103,24 +103,24 @@ module _ (d : Dossier) (s : Sound d) (r : Row Attribute) (g : T (in_range (attri
   pub attribute_sound : Sound attribute_more
   attribute_sound =
       record {
-        nodes_ascend = s.nodes-ascend;
-        attributes_ascend = insert_sorted before_attribute attributes_order r s.attributes-ascend;
-        permissions_ascend = s.permissions-ascend;
-        nodes_good = s.nodes-good;
-        attributes_good = λ z h. new_or_old (λ y. T (in_range (attribute_record y))) r z d.attributes g s.attributes-good (back z h);
-        permissions_good = s.permissions-good;
+        nodes_ascend = s.nodes_ascend;
+        attributes_ascend = insert_sorted before_attribute attributes_order r s.attributes_ascend;
+        permissions_ascend = s.permissions_ascend;
+        nodes_good = s.nodes_good;
+        attributes_good = λ z h. new_or_old (λ y. T (in_range (attribute_record y))) r z d.attributes g s.attributes_good (back z h);
+        permissions_good = s.permissions_good;
         root = s.root;
         above = s.above;
         left_there_lem = s.left_there_lem;
-        on_node_lem = λ z h. new_or_old (λ y. T (there (node_at y.0 d))) r z d.attributes parts.0 s.on-node (back z h);
-        on_object = λ z h. object_kept z.0 z.1.0 d attribute_more (λ o m. m) (λ a m. insert_old before_attribute attributes_order r (z.0, a) d.attributes m) (s.on-object z h);
-        one_node = s.one-node;
+        on_node_lem = λ z h. new_or_old (λ y. T (there (node_at y.0 d))) r z d.attributes parts.0 s.on_node (back z h);
+        on_object = λ z h. object_kept z.0 z.1.0 d attribute_more (λ o m. m) (λ a m. insert_old before_attribute attributes_order r (z.0, a) d.attributes m) (s.on_object z h);
+        one_node = s.one_node;
         one_attribute = λ q a b h k. one q a b (back (q, a) h) (back (q, b) k);
-        no_clash = s.no-clash;
-        few_nodes = s.few-nodes;
+        no_clash = s.no_clash;
+        few_nodes = s.few_nodes;
         few_attributes = let k = ltb→lt (length d.attributes) 256 parts.2 in omega (arith, insert_one before_attribute r d.attributes);
         few_on_node = few;
-        few_permissions = s.few-permissions;
+        few_permissions = s.few_permissions;
       }
     where
       parts : T (there (node_at r.0 d)) × T (not (there (attribute_at r.0 r.1.name d))) × T (ltb (length d.attributes) 256) × T (ltb (length (names_on r.0 d)) 16)
@@ -146,14 +146,14 @@ module _ (d : Dossier) (s : Sound d) (r : Row Attribute) (g : T (in_range (attri
       one q a b (inl e) (inl f) n = λ i. ((e ∙ sym f) i).1
       one q a b (inl e) (inr h) n = absurd (not_two q a b e h n)
       one q a b (inr h) (inl f) n = absurd (not_two q b a f h (sym n))
-      one q a b (inr h) (inr k) n = s.one-attribute q a b h k n
+      one q a b (inr h) (inr k) n = s.one_attribute q a b h k n
 
       few : (q : Address) → length (names_on q attribute_more) ≤ 16
       few q =
           let m = insert_long (at q) before_attribute r d.attributes in
           let i = length-map (move (at q) (insert before_attribute r d.attributes)) (λ (a : Attribute). a.name) in
           let j = length-map (move (at q) d.attributes) (λ (a : Attribute). a.name) in
-          let f = s.few-on-node q in
+          let f = s.few_on_node q in
           let h = go (same r.0 q) (same_eq r.0 q) (omega arith) in
           omega arith
         where
@@ -173,24 +173,24 @@ module _ (d : Dossier) (s : Sound d) (r : Row (ℕ × Permission)) (g : T (in_ra
   pub permission_sound : Sound permission_more
   permission_sound =
       record {
-        nodes_ascend = s.nodes-ascend;
-        attributes_ascend = s.attributes-ascend;
-        permissions_ascend = insert_sorted before_permission permissions_order r s.permissions-ascend;
-        nodes_good = s.nodes-good;
-        attributes_good = s.attributes-good;
-        permissions_good = λ z h. new_or_old (λ y. T (in_range (permission_record y))) r z d.permissions g s.permissions-good (back z h);
+        nodes_ascend = s.nodes_ascend;
+        attributes_ascend = s.attributes_ascend;
+        permissions_ascend = insert_sorted before_permission permissions_order r s.permissions_ascend;
+        nodes_good = s.nodes_good;
+        attributes_good = s.attributes_good;
+        permissions_good = λ z h. new_or_old (λ y. T (in_range (permission_record y))) r z d.permissions g s.permissions_good (back z h);
         root = more [] s.root;
         above = λ z h. or_else (is_root z.0) (there (node_at (parent z.0) d)) (there (node_at (parent z.0) permission_more)) (λ n u. more (parent z.0) u) (s.above z h);
         left_there_lem = λ z h. or_else (is_root z.0) (eqb (last z.0) 1 || there (node_at (left z.0) d)) (eqb (last z.0) 1 || there (node_at (left z.0) permission_more))
             (λ n. or_else (eqb (last z.0) 1) (there (node_at (left z.0) d)) (there (node_at (left z.0) permission_more)) (λ m u. more (left z.0) u)) (s.left_there_lem z h);
-        on_node_lem = λ z h. more z.0 (s.on-node z h);
-        on_object = λ z h. object_more z.0 z.1.0 (new_or_old (λ y. T (there (object_at y.0 y.1.0 d))) r z d.permissions parts.0 s.on-object (back z h));
-        one_node = s.one-node;
-        one_attribute = s.one-attribute;
+        on_node_lem = λ z h. more z.0 (s.on_node z h);
+        on_object = λ z h. object_more z.0 z.1.0 (new_or_old (λ y. T (there (object_at y.0 y.1.0 d))) r z d.permissions parts.0 s.on_object (back z h));
+        one_node = s.one_node;
+        one_attribute = s.one_attribute;
         no_clash = λ q n a b h k. clear q n a b (back (grant_row q n a) h) (back (grant_row q n b) k);
-        few_nodes = s.few-nodes;
-        few_attributes = s.few-attributes;
-        few_on_node = s.few-on-node;
+        few_nodes = s.few_nodes;
+        few_attributes = s.few_attributes;
+        few_on_node = s.few_on_node;
         few_permissions = let k = ltb→lt (length d.permissions) 128 parts.2 in omega (arith, insert_one before_permission r d.permissions);
       }
     where
@@ -217,4 +217,4 @@ module _ (d : Dossier) (s : Sound d) (r : Row (ℕ × Permission)) (g : T (in_ra
       clear q n a b (inl e) (inl f) c = λ i. ((e ∙ sym f) i).1.1
       clear q n a b (inl e) (inr h) c = absurd (not_both q n a b e h c)
       clear q n a b (inr h) (inl f) c = absurd (not_both q n b a f h (clash_sym a b c))
-      clear q n a b (inr h) (inr k) c = s.no-clash q n a b h k c
+      clear q n a b (inr h) (inr k) c = s.no_clash q n a b h k c

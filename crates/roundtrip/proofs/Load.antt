@@ -91,9 +91,9 @@ module _ (d : Dossier) (s : Sound d) where
       (or_both (is_root p) (there (node_at (parent p) st)) (eqb (last p) 1 || there (node_at (left p) st))
       (or_else (is_root p) (there (node_at (parent p) d)) (there (node_at (parent p) st)) (λ n t. earlier (parent p) (parent_before p n) t) (s.above r in_d))
       (or_else (is_root p) (eqb (last p) 1 || there (node_at (left p) d)) (eqb (last p) 1 || there (node_at (left p) st))
-      (λ n. or_else (eqb (last p) 1) (there (node_at (left p) d)) (there (node_at (left p) st)) (λ k t. earlier (left p) (left_before p (path_valid (node_record r) (s.nodes-good r in_d)) n) t))
+      (λ n. or_else (eqb (last p) 1) (there (node_at (left p) d)) (there (node_at (left p) st)) (λ k t. earlier (left p) (left_before p (path_valid (node_record r) (s.nodes_good r in_d)) n) t))
       (s.left_there_lem r in_d)))
-      (cut_room l r m e 64 s.few-nodes)))
+      (cut_room l r m e 64 s.few_nodes)))
     where
       p : Address
       p = r.0
@@ -108,13 +108,13 @@ module _ (d : Dossier) (s : Sound d) where
       earlier : (q : Address) → T (before q p) → T (there (node_at q d)) → T (there (node_at q st))
       earlier q b t =
           let w = node_in_lem q d t in
-          node_there q w.0 st (less_cut l r m e nodes_order s.nodes-ascend (q, w.0) (lex2_left before address_order q p (ltb w.0 r.1) b) w.1)
+          node_there q w.0 st (less_cut l r m e nodes_order s.nodes_ascend (q, w.0) (lex2_left before address_order q p (ltb w.0 r.1) b) w.1)
 
       second : T (there (node_at p st)) → ⊥
       second t =
           let w = node_in_lem p st t in
-          let z = s.one-node p r.1 w.0 in_d (cut_before l r m e (p, w.0) w.1) in
-          cut_once l r m e nodes_order s.nodes-ascend (Memᴰ.cast (λ i. (p, z i)) w.1)
+          let z = s.one_node p r.1 w.0 in_d (cut_before l r m e (p, w.0) w.1) in
+          cut_once l r m e nodes_order s.nodes_ascend (Memᴰ.cast (λ i. (p, z i)) w.1)
 
   attribute_accepted : (l : List (Row Attribute)) (r : Row Attribute) (m : List (Row Attribute)) → l ++ (r ∷ m) ≡ d.attributes
       → accept (with_attributes l) (attribute_record r) ≡ some (with_attributes (insert before_attribute r l))
@@ -123,7 +123,7 @@ module _ (d : Dossier) (s : Sound d) where
       accept_yes st (attribute_record r)
       (yes_and (there (node_at p st)) (not (there (attribute_at p n st)) && (ltb (length l) 256 && ltb (length (names_on p st)) 16)) on_node_lem
       (yes_and (not (there (attribute_at p n st))) (ltb (length l) 256 && ltb (length (names_on p st)) 16) (not_T (there (attribute_at p n st)) second)
-      (yes_and (ltb (length l) 256) (ltb (length (names_on p st)) 16) (cut_room l r m e 256 s.few-attributes) few_here)))
+      (yes_and (ltb (length l) 256) (ltb (length (names_on p st)) 16) (cut_room l r m e 256 s.few_attributes) few_here)))
     where
       p : Address
       p = r.0
@@ -138,19 +138,19 @@ module _ (d : Dossier) (s : Sound d) where
       in_d = cut_here l r m e
 
       on_node_lem : T (there (node_at p st))
-      on_node_lem = let w = node_in_lem p d (s.on-node r in_d) in node_there p w.0 st w.1
+      on_node_lem = let w = node_in_lem p d (s.on_node r in_d) in node_there p w.0 st w.1
 
       second : T (there (attribute_at p n st)) → ⊥
       second t =
           let w = attribute_in_lem p n st t in
-          let z = s.one-attribute p r.1 w.0 in_d (cut_before l r m e (p, w.0) w.1) (sym w.2) in
-          cut_once l r m e attributes_order s.attributes-ascend (Memᴰ.cast (λ i. (p, z i)) w.1)
+          let z = s.one_attribute p r.1 w.0 in_d (cut_before l r m e (p, w.0) w.1) (sym w.2) in
+          cut_once l r m e attributes_order s.attributes_ascend (Memᴰ.cast (λ i. (p, z i)) w.1)
 
       few_here : T (ltb (length (names_on p st)) 16)
       few_here =
           let h = move_longer (at p) l r r.1 m (at_self p r.1) in
           let k : length (move (at p) (l ++ (r ∷ m))) ≡ length (move (at p) d.attributes) = ap (λ (x : List (Row Attribute)). length (move (at p) x)) e in
-          let b = s.few-on-node p in
+          let b = s.few_on_node p in
           let i = length-map (move (at p) l) (λ (a : Attribute). a.name) in
           let j = length-map (move (at p) d.attributes) (λ (a : Attribute). a.name) in
           lt→ltb (length (names_on p st)) 16 (omega arith)
@@ -160,7 +160,7 @@ module _ (d : Dossier) (s : Sound d) where
   unfolding with_permissions
   permission_accepted l r m e =
       accept_yes st (permission_record r)
-      (fits_in g (length l) p n st (object_kept p n d st (λ o h. h) (λ a h. h) (s.on-object r in_d)) (clash_none g (permissions_for p n st) clear) (cut_room l r m e 128 s.few-permissions))
+      (fits_in g (length l) p n st (object_kept p n d st (λ o h. h) (λ a h. h) (s.on_object r in_d)) (clash_none g (permissions_for p n st) clear) (cut_room l r m e 128 s.few_permissions))
     where
       p : Address
       p = r.0
@@ -180,24 +180,24 @@ module _ (d : Dossier) (s : Sound d) where
       clear : (h : Permission) → h ∈ permissions_for p n st → T (clash g h) → ⊥
       clear h k t =
           let w = grant_in_lem p n h st k in
-          let z = s.no-clash p n g h in_d (cut_before l r m e (grant_row p n h) w) t in
-          cut_once l r m e permissions_order s.permissions-ascend (Memᴰ.cast (λ i. grant_row p n (z i)) w)
+          let z = s.no_clash p n g h in_d (cut_before l r m e (grant_row p n h) w) t in
+          cut_once l r m e permissions_order s.permissions_ascend (Memᴰ.cast (λ i. grant_row p n (z i)) w)
 
   sound_runs : Runs accept no_records (records_of d) d
   unfolding with_nodes with_attributes with_permissions
   sound_runs =
       runs_append accept (map node_record d.nodes) (map attribute_record d.attributes ++ map permission_record d.permissions) no_records (with_attributes []) d
-      (table_runs accept with_nodes node_record nodes_order d.nodes s.nodes-ascend node_accepted)
+      (table_runs accept with_nodes node_record nodes_order d.nodes s.nodes_ascend node_accepted)
       (runs_append accept (map attribute_record d.attributes) (map permission_record d.permissions) (with_attributes []) (with_permissions []) d
-      (table_runs accept with_attributes attribute_record attributes_order d.attributes s.attributes-ascend attribute_accepted)
-      (table_runs accept with_permissions permission_record permissions_order d.permissions s.permissions-ascend permission_accepted))
+      (table_runs accept with_attributes attribute_record attributes_order d.attributes s.attributes_ascend attribute_accepted)
+      (table_runs accept with_permissions permission_record permissions_order d.permissions s.permissions_ascend permission_accepted))
 
 -- ---- the records of a sound dossier are in their ranges, at least 1 and at most 448
 sound_ranges : (d : Dossier) → Sound d → Ranges (records_of d)
 sound_ranges d s =
-    ranges_append (map node_record d.nodes) (map attribute_record d.attributes ++ map permission_record d.permissions) (ranges_map node_record d.nodes s.nodes-good)
-    (ranges_append (map attribute_record d.attributes) (map permission_record d.permissions) (ranges_map attribute_record d.attributes s.attributes-good)
-    (ranges_map permission_record d.permissions s.permissions-good))
+    ranges_append (map node_record d.nodes) (map attribute_record d.attributes ++ map permission_record d.permissions) (ranges_map node_record d.nodes s.nodes_good)
+    (ranges_append (map attribute_record d.attributes) (map permission_record d.permissions) (ranges_map attribute_record d.attributes s.attributes_good)
+    (ranges_map permission_record d.permissions s.permissions_good))
 
 records_count : (d : Dossier) → length (records_of d) ≡ length d.nodes + (length d.attributes + length d.permissions)
 records_count d =
@@ -216,7 +216,7 @@ pub load_save : (d : Dossier) → Sound d → load (save d) ≡ good d
 load_save d s =
     let c = records_count d in
     let h : 0 < length d.nodes = some_row (node_in_lem [] d s.root).1 in
-    let x = s.few-nodes in
-    let y = s.few-attributes in
-    let z = s.few-permissions in
+    let x = s.few_nodes in
+    let y = s.few_attributes in
+    let z = s.few_permissions in
     load_runs accept no_records (records_of d) d (omega arith) (omega arith) (sound_ranges d s) (records_ascend d s) (sound_runs d s)

@@ -1,4 +1,6 @@
 // A dossier or a clipboard into a lent buffer: all of its records, or nothing.
+#![tactic(auto)]
+
 ghost use Rattle.std.specs.Prelude.{◌≡◌, map, ◌+◌, ◌*◌, ◌≤◌, length};
 ghost use Rattle.laws.specs.Slots.{put};
 ghost use Rattle.model.specs.Image as images;
@@ -53,7 +55,7 @@ fn put_permissions(t: Permissions, out: &mut [u8], at: usize)
 
 // ---- all or nothing
 
-#[derive(Drop)]
+#[derive(Clone, Copy)]
 pub enum Written {
     Short,
     Bytes(usize),

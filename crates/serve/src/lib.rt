@@ -1,4 +1,6 @@
 // Calls made on a session, each with its answer written. The session goes through every call by value.
+#![tactic(auto)]
+
 ghost use Rattle.state.specs.View.{SessionSound};
 ghost use Rattle.io.specs.Counts.{IsPrefixLen};
 

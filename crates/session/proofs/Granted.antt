@@ -47,7 +47,7 @@ pub object_no_clash : (d : Dossier) → Sound d → (p : Address) (n : ℕ) (o :
 object_no_clash d s p n o = go (eqb n 0)
   where
     none_clash : (k : ℕ) → o.permissions ≡ permissions_for p k d → NoClash o.permissions
-    none_clash k e = subst NoClash (sym e) (no_clash_in p k s.permissions-ascend (s.no-clash p k))
+    none_clash k e = subst NoClash (sym e) (no_clash_in p k s.permissions_ascend (s.no_clash p k))
 
     go : (b : Bool) → pick b (node_at p d) (attribute_object p n d) ≡ some o → NoClash o.permissions
     go true e = none_clash 0 (mapped (λ (u : ℕ). record { owner = u; permissions = permissions_for p 0 d }) (permissions_for p 0 d) (λ u i. permissions_for p 0 d) (owner_in p d.nodes) o e)

@@ -1,5 +1,7 @@
 // The calls of a host over its one session. Each takes the parts that it uses out of the session, calls by value and stores back what came out.
 // What a call promises is the model's step on the whole session. A `via_` function takes the session by value, lends it to the call, and hands it back: for programs.
+#![tactic(auto)]
+
 ghost use Rattle.std.specs.Prelude.{◌≡◌};
 ghost use Rattle.model.specs.Things as things;
 ghost use Rattle.model.specs.Run as run;

@@ -1,4 +1,6 @@
 // A dossier as a person would draw it: a line for each node, indented by its depth, and below it its permissions and its attributes.
+#![tactic(auto)]
+
 use answers::{put_byte, put_digits, put_number, put_text};
 use encode::{bits_of_time, pattern_of};
 use libc::STDOUT_FILENO;

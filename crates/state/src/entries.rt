@@ -7,7 +7,7 @@ ghost use Rattle.state.specs.Calls.{LogSound, having_log, taken_of, buffer_in};
 
 use crate::{Answer, Entry, Log, Outcome, plain};
 
-#[derive(Drop)]
+#[derive(Clone, Copy)]
 pub struct LogOut {
     pub log: Log,
     pub answer: Answer,

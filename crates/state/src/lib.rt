@@ -1,4 +1,6 @@
 // What a session holds, what a request carries, and what a call answers.
+#![tactic(auto)]
+
 ghost use Rattle.std.specs.Prelude.{◌≡◌};
 ghost use Rattle.state.specs.View.{plain_of};
 
@@ -9,26 +11,26 @@ pub mod entries;
 pub mod signatures;
 
 // The agreements that one user has signed, bit n for number n.
-#[derive(Drop)]
+#[derive(Clone, Copy)]
 pub struct Agreements {
     pub signed: u32,
 }
 
 // Who a message was logged for, and which.
-#[derive(Drop)]
+#[derive(Clone, Copy)]
 pub struct Entry {
     pub user: u8,
     pub message: u8,
 }
 
-#[derive(Drop)]
+#[derive(Clone, Copy)]
 pub struct Log {
     pub entries: [Entry; 256],
     pub count: usize,
 }
 
 // Two open dossiers, one clipboard, one row of agreements for each user, one log.
-#[derive(Drop)]
+#[derive(Clone, Copy)]
 pub struct Session {
     pub one: Dossier,
     pub two: Dossier,
@@ -38,7 +40,7 @@ pub struct Session {
 }
 
 // A guarded request with all its operands: those that only other requests use aren't looked at.
-#[derive(Drop)]
+#[derive(Clone, Copy)]
 pub struct Request {
     pub number: u8,
     pub dossier: u8,
@@ -52,7 +54,7 @@ pub struct Request {
 }
 
 // Done; a node's child count (its names stand beside it); a value; how many bytes were written; a refusal; refusal 12 with its record.
-#[derive(Drop)]
+#[derive(Clone, Copy)]
 pub enum Outcome {
     Done,
     Contents(usize),
@@ -63,20 +65,20 @@ pub enum Outcome {
 }
 
 // The names are those of a node that was read; else there are none.
-#[derive(Drop)]
+#[derive(Clone, Copy)]
 pub struct Answer {
     pub outcome: Outcome,
     pub names: Names,
 }
 
-#[derive(Drop)]
+#[derive(Clone, Copy)]
 pub struct Stepped {
     pub session: Session,
     pub answer: Answer,
 }
 
 // The two dossiers after a call on them, and its answer.
-#[derive(Drop)]
+#[derive(Clone, Copy)]
 pub struct DossiersOut {
     pub one: Dossier,
     pub two: Dossier,

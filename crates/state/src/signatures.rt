@@ -6,7 +6,7 @@ ghost use Rattle.state.specs.Calls.{signed_of};
 
 use crate::{Agreements, Answer, Outcome, plain};
 
-#[derive(Drop)]
+#[derive(Clone, Copy)]
 pub struct SignaturesOut {
     pub signatures: [Agreements; 64],
     pub answer: Answer,

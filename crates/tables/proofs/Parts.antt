@@ -28,9 +28,9 @@ fits lt n l rest room good ascend = record { room = room; each = all _ l (λ r m
 pub sound_fits : (d : things.Dossier) → Sound d → TablesFit d
 sound_fits d s =
     record {
-      nodes = fits _ 64 _ _ s.few-nodes s.nodes-good s.nodes-ascend;
-      attributes = fits _ 256 _ _ s.few-attributes s.attributes-good s.attributes-ascend;
-      permissions = fits _ 128 _ _ s.few-permissions s.permissions-good s.permissions-ascend;
+      nodes = fits _ 64 _ _ s.few_nodes s.nodes_good s.nodes_ascend;
+      attributes = fits _ 256 _ _ s.few_attributes s.attributes_good s.attributes_ascend;
+      permissions = fits _ 128 _ _ s.few_permissions s.permissions_good s.permissions_ascend;
     }
 
 pub dossier_fits : {d : Dossier} → DossierSound d → DossierFits d

@@ -16,7 +16,7 @@ use Rattle.tables.proofs.Rows.{view_node_lem, nodes_held, view_nodes_lem, view_a
 
 count_of : {S M : Type 0} (of : M → S) (v : S → M) → ((m : M) → v (of m) ≡ m) → (P : M → Type 0) (n : ℕ) (b : S) (rows : List S) (count : ℕ)
     → Held of P n b rows count → count ≡ length (map v (take count rows))
-count_of of v e P n b rows count h = h.count-is ∙ ap length (sym (held_seen of v e P n b rows count h))
+count_of of v e P n b rows count h = h.count_is ∙ ap length (sym (held_seen of v e P n b rows count h))
 
 -- ---- nodes
 pub nodes_same : (t : Nodes) → NodesSound t → t ≡ nodes_of (view_nodes t)

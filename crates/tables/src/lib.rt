@@ -1,4 +1,6 @@
 // The dossier as arrays: rows of nodes, attributes and permissions, in the order of an image.
+#![tactic(auto)]
+
 ghost use Rattle.std.specs.Prelude.{◌≡◌, []};
 ghost use Rattle.tables.specs.View.{nodes_of, attributes_of, permissions_of, blank_node, blank_attribute, blank_permission};
 
@@ -8,21 +10,21 @@ pub mod order;
 pub mod place;
 
 // A whole number, or a measured reading.
-#[derive(Drop)]
+#[derive(Clone, Copy)]
 pub enum Value {
     Whole(u32),
     Reading(f32),
 }
 
 // The unused bytes, always 0, fill the row: with no hole in it a compiler blanks and copies a table as one block.
-#[derive(Drop)]
+#[derive(Clone, Copy)]
 pub struct Node {
     pub path: Path,
     pub owner: u8,
     pub unused: [u8; 7],
 }
 
-#[derive(Drop)]
+#[derive(Clone, Copy)]
 pub struct Attribute {
     pub path: Path,
     pub name: u16,
@@ -31,35 +33,35 @@ pub struct Attribute {
 }
 
 // A node's owner, or that there is no such node: nobody is no user.
-#[derive(Drop)]
+#[derive(Clone, Copy)]
 pub enum Owner {
     Nobody,
     User(u8),
 }
 
 // An attribute's owner and value, or that there is none.
-#[derive(Drop)]
+#[derive(Clone, Copy)]
 pub enum Found {
     Absent,
     Present(u8, Value),
 }
 
 // The names on a node, ascending; unused places are 0.
-#[derive(Drop)]
+#[derive(Clone, Copy)]
 pub struct Names {
     pub names: [u16; 16],
     pub count: usize,
 }
 
 // Both ends of an interval of times belong to it.
-#[derive(Drop)]
+#[derive(Clone, Copy)]
 pub struct Span {
     pub first: i64,
     pub last: i64,
 }
 
 // A permission without its object: user 0 is any user; messages and agreements are sets, bit n for number n.
-#[derive(Drop)]
+#[derive(Clone, Copy)]
 pub struct Grant {
     pub role: u8,
     pub action: u8,
@@ -70,32 +72,32 @@ pub struct Grant {
 }
 
 // A permission for the node at the path (name 0) or for the attribute of that name there.
-#[derive(Drop)]
+#[derive(Clone, Copy)]
 pub struct Permission {
     pub path: Path,
     pub name: u16,
     pub grant: Grant,
 }
 
-#[derive(Drop)]
+#[derive(Clone, Copy)]
 pub struct Nodes {
     pub rows: [Node; 64],
     pub count: usize,
 }
 
-#[derive(Drop)]
+#[derive(Clone, Copy)]
 pub struct Attributes {
     pub rows: [Attribute; 256],
     pub count: usize,
 }
 
-#[derive(Drop)]
+#[derive(Clone, Copy)]
 pub struct Permissions {
     pub rows: [Permission; 128],
     pub count: usize,
 }
 
-#[derive(Drop)]
+#[derive(Clone, Copy)]
 pub struct Dossier {
     pub nodes: Nodes,
     pub attributes: Attributes,
@@ -103,7 +105,7 @@ pub struct Dossier {
 }
 
 // Kind 0 is empty, 1 a branch, 2 one attribute with its permissions, all at the root's path.
-#[derive(Drop)]
+#[derive(Clone, Copy)]
 pub struct Clipboard {
     pub kind: u8,
     pub held: Dossier,

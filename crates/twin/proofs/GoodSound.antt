@@ -95,12 +95,12 @@ grant_fits n g x (inr w) =
     (yes_and (leb w.0.name 65535) (permission_good w.0.name x.1) (name_small w.0.name h.name) (h.permissions.each x.1 w.3))
 
 grants_apart : (n : Node) → GoodNode n → (k : ℕ) (x y : Permission) → Grant n (k, x) → Grant n (k, y) → T (clash x y) → x ≡ y
-grants_apart n g k x y (inl v) (inl w) t = one_clashes n.permissions g.permissions.no-clash x y v.1 w.1 t
+grants_apart n g k x y (inl v) (inl w) t = one_clashes n.permissions g.permissions.no_clash x y v.1 w.1 t
 grants_apart n g k x y (inl v) (inr w) t = absurd (not_zero w.0.name (g.attributes w.0 w.1).name (w.2 ∙ v.0))
 grants_apart n g k x y (inr v) (inl w) t = absurd (not_zero v.0.name (g.attributes v.0 v.1).name (v.2 ∙ w.0))
 grants_apart n g k x y (inr v) (inr w) t =
     let e : w.0 ≡ v.0 = one_holding n g w.0 v.0 w.1 v.1 (w.2 ∙ sym v.2) in
-    one_clashes v.0.permissions (g.attributes v.0 v.1).permissions.no-clash x y v.3 (subst (λ (a : Holding). y ∈ a.permissions) e w.3) t
+    one_clashes v.0.permissions (g.attributes v.0 v.1).permissions.no_clash x y v.3 (subst (λ (a : Holding). y ∈ a.permissions) e w.3) t
 
 there_some : {A : Type 0} (o : Option A) (a : A) → o ≡ some a → T (there o)
 there_some none a e = absurd (none-ne-some a e)
@@ -207,10 +207,10 @@ module _ (t : Tree Node) (g : GoodTree t) where
     one_node = one_node;
     one_attribute = one_attribute;
     no_clash = no_clash;
-    few_nodes = omega (arith, ap (λ (s : Sizes). s.nodes) (sizes_same t g), g.few-nodes);
-    few_attributes = omega (arith, ap (λ (s : Sizes). s.attributes) (sizes_same t g), g.few-attributes);
+    few_nodes = omega (arith, ap (λ (s : Sizes). s.nodes) (sizes_same t g), g.few_nodes);
+    few_attributes = omega (arith, ap (λ (s : Sizes). s.attributes) (sizes_same t g), g.few_attributes);
     few_on_node = λ p. let e : length (names_on p (dossier_of t)) ≡ length (names_of (look p t)) = ap length (names_same p t) in omega (arith, few_names p);
-    few_permissions = omega (arith, ap (λ (s : Sizes). s.permissions) (sizes_same t g), g.few-permissions);
+    few_permissions = omega (arith, ap (λ (s : Sizes). s.permissions) (sizes_same t g), g.few_permissions);
   }
 
 -- ---- the clipboard, the session
@@ -221,7 +221,7 @@ single_sound a g = record {
   permissions_good = λ x m.
       yes_and (leb a.name 65535) (permission_good a.name x) (name_small a.name g.holding.name)
       (g.holding.permissions.each x (sort_back lt_permission permission_order a.permissions x m));
-  no_clash = λ x y m k. one_clashes a.permissions g.holding.permissions.no-clash x y
+  no_clash = λ x y m k. one_clashes a.permissions g.holding.permissions.no_clash x y
       (sort_back lt_permission permission_order a.permissions x m) (sort_back lt_permission permission_order a.permissions y k);
   few = omega (arith, sort_length lt_permission permission_order a.permissions (permissions_once a.name a.permissions g.holding.permissions), g.few);
 }

@@ -49,9 +49,9 @@ pub branch_good : (q : Address) (t s : Tree Node) → branch q t ≡ some s → 
 branch_good q t s e g = record {
   each = each_branch GoodTop q t s e g.each;
   low = omega (arith, branch_height q t s e, g.low);
-  few_nodes = omega (arith, branch_weigh node_items q t s e, g.few-nodes);
-  few_attributes = omega (arith, branch_weigh attribute_items q t s e, g.few-attributes);
-  few_permissions = omega (arith, branch_weigh permission_items q t s e, g.few-permissions);
+  few_nodes = omega (arith, branch_weigh node_items q t s e, g.few_nodes);
+  few_attributes = omega (arith, branch_weigh attribute_items q t s e, g.few_attributes);
+  few_permissions = omega (arith, branch_weigh permission_items q t s e, g.few_permissions);
 }
 
 pub look_good : (q : Address) (t : Tree Node) (n : Node) → look q t ≡ some n → GoodTree t → GoodNode n
@@ -64,7 +64,7 @@ single_good q name t a e g =
     let m = holding_in name w.0 a w.2 in
     let b : length (permission_items w.0) ≤ weigh permission_items t = look_weigh permission_items q t w.0 w.1 in
     let c : length a.permissions ≤ _ = one_of_items w.0.attributes a m.0 in
-    record { holding = (look_good q t w.0 w.1 g).attributes a m.0; few = omega (arith, permissions_length w.0, g.few-permissions) }
+    record { holding = (look_good q t w.0 w.1 g).attributes a m.0; few = omega (arith, permissions_length w.0, g.few_permissions) }
 
 pub dossier_good_lem : (n : ℕ) (s : Session) → GoodSession s → GoodTree (dossier n s)
 dossier_good_lem n s g = go (eqb n 1)
@@ -101,7 +101,7 @@ paste_good s (k ∷ q) t h r g =
 -- a node without anything is one row
 pub leaf_room : (u : ℕ) (p : Address) (t : Tree Node) → ((v : Tree Node) → branch (parent p) t ≡ some v → count (kids v) + 1 ≤ 32) → length p ≤ 6 → weigh node_items t + 1 ≤ 64 → GoodTree t → Room (leaf u) p t
 unfolding height weigh
-leaf_room u p t c d l g = record { children = c; depth = omega arith; nodes = omega arith; attributes = omega (arith, g.few-attributes); permissions = omega (arith, g.few-permissions) }
+leaf_room u p t c d l g = record { children = c; depth = omega arith; nodes = omega arith; attributes = omega (arith, g.few_attributes); permissions = omega (arith, g.few_permissions) }
 
 pub delete_good : (p : Address) (t : Tree Node) → length p ≤ 6 → GoodTree t → GoodTree (delete_tree p t)
 delete_good [] t l g = g
@@ -109,9 +109,9 @@ delete_good (k ∷ q) t l g = record {
   each = each_edit GoodTop narrow drop 0 (λ i f. omega (arith, count_drop i f)) (each_drop GoodTop) k q t
       (λ u f e v b. record { node = v.node; narrow = omega (arith, v.narrow) }) g.each;
   low = omega (arith, edit_height drop (6 - length q) (drop_height (6 - length q)) k q t (omega (arith, g.low)));
-  few_nodes = omega (arith, edit_weigh node_items drop 0 (λ i f. omega (arith, drop_weigh node_items i f)) k q t, g.few-nodes);
-  few_attributes = omega (arith, edit_weigh attribute_items drop 0 (λ i f. omega (arith, drop_weigh attribute_items i f)) k q t, g.few-attributes);
-  few_permissions = omega (arith, edit_weigh permission_items drop 0 (λ i f. omega (arith, drop_weigh permission_items i f)) k q t, g.few-permissions);
+  few_nodes = omega (arith, edit_weigh node_items drop 0 (λ i f. omega (arith, drop_weigh node_items i f)) k q t, g.few_nodes);
+  few_attributes = omega (arith, edit_weigh attribute_items drop 0 (λ i f. omega (arith, drop_weigh attribute_items i f)) k q t, g.few_attributes);
+  few_permissions = omega (arith, edit_weigh permission_items drop 0 (λ i f. omega (arith, drop_weigh permission_items i f)) k q t, g.few_permissions);
 }
 
 -- ---- what a node carries
@@ -120,7 +120,7 @@ set_good : (f : Node → Node) (a b : ℕ) (p : Address) (t : Tree Node) → ((n
 set_good f a b p t h la lb g = record {
   each = each_set GoodTop narrow f p t (λ u e q. record { node = (h (payload u) (branch_look p t u e) q.node).good; narrow = q.narrow }) g.each;
   low = set_height f p t 6 g.low;
-  few_nodes = omega (arith, set_weigh node_items f 0 p t (λ n e. omega arith), g.few-nodes);
+  few_nodes = omega (arith, set_weigh node_items f 0 p t (λ n e. omega arith), g.few_nodes);
   few_attributes = omega (
     arith,
     set_weigh attribute_items f a p t
@@ -139,11 +139,11 @@ hold_good a p t h e l la lb g =
     la lb g
 
 pub without_good : (name : ℕ) (p : Address) (t : Tree Node) → GoodTree t → GoodTree (set_at (without_holding name) p t)
-without_good name p t g = set_good (without_holding name) 0 0 p t (λ n d. without_grows name n) (omega (arith, g.few-attributes)) (omega (arith, g.few-permissions)) g
+without_good name p t g = set_good (without_holding name) 0 0 p t (λ n d. without_grows name n) (omega (arith, g.few_attributes)) (omega (arith, g.few_permissions)) g
 
 pub value_good_lem : (name : ℕ) (v : Value) (p : Address) (t : Tree Node) → T (value_good v) → GoodTree t → GoodTree (set_at (on_holding name (with_value v)) p t)
 value_good_lem name v p t h g =
-    set_good (on_holding name (with_value v)) 0 0 p t (λ n d. value_grows name v n h) (omega (arith, g.few-attributes)) (omega (arith, g.few-permissions)) g
+    set_good (on_holding name (with_value v)) 0 0 p t (λ n d. value_grows name v n h) (omega (arith, g.few_attributes)) (omega (arith, g.few_permissions)) g
 
 pub revoke_good : (name : ℕ) (x : Permission) (p : Address) (t : Tree Node) → GoodTree t → GoodTree (set_at (without_permission name x) p t)
 revoke_good name x p t g =
@@ -152,7 +152,7 @@ revoke_good name x p t g =
     permissions_grow name 0 _ n (λ l. omega (arith, kept_length (λ h. not (same_permission x h)) l))
     (λ z. revoked_good 0 (λ h. not (same_permission x h)) n.permissions v.permissions)
     (λ a z e. revoked_good a.name (λ h. not (same_permission x h)) a.permissions (v.attributes a (holding_in name n a e).0).permissions) v)
-    (omega (arith, g.few-attributes)) (omega (arith, g.few-permissions)) g
+    (omega (arith, g.few_attributes)) (omega (arith, g.few_permissions)) g
 
 -- no clash with the permissions of the object there
 pub grant_good_lem : (name : ℕ) (x : Permission) (p : Address) (t : Tree Node) → T (permission_good name x) → (T (clash_any x (permissions_of (object_at p name t))) → ⊥)
@@ -169,4 +169,4 @@ grant_good_lem name x p t h c l g =
     (λ s. c (subst (λ (o : Option Object). T (clash_any x (permissions_of o)))
     (sym (pick_no (eqb name 0) (node_at p t) (attribute_object p name t) z ∙ ap (λ (o : Option Node). map holding_object (then o (holding name))) d ∙ ap (map holding_object) e)) s))
     (v.attributes a w.0).permissions) v)
-    (omega (arith, g.few-attributes)) l g
+    (omega (arith, g.few_attributes)) l g

@@ -57,7 +57,7 @@ attribute_kept p a t h f g =
     let c : length (names_of (look p t)) < 16 = ltb→lt (length (names_of (look p t))) 16 k.1 in
     hold_good (bare_holding a) p t
     (record { name = v.0; owner = x.0; value = x.1; permissions = record { each = λ y m. absurd (Memᴰ.not-nil m); no_clash = tt } })
-    (absent_none (holding_at p a.name t) j.0) (omega arith) (omega arith) (omega (arith, g.few-permissions)) g
+    (absent_none (holding_at p a.name t) j.0) (omega arith) (omega arith) (omega (arith, g.few_permissions)) g
 
 permission_kept : (p : Address) (name : ℕ) (x : Permission) (t : Tree Node) → T (valid p && (leb name 65535 && permission_good name x)) → T (permission_in p name x t)
     → GoodTree t → GoodTree (set_at (with_permission name x) p t)

@@ -56,14 +56,14 @@ no_clash_kept test (x ∷ l) n = go (test x) (no_clash_kept test l n.1)
     go false k = k
 
 pub granted_good : (name : ℕ) (g : Permission) (l : List Permission) → T (permission_good name g) → (T (clash_any g (in_order l)) → ⊥) → GoodPermissions name l → GoodPermissions name (g ∷ l)
-granted_good name g l t n p = record { each = λ h m. go h m; no_clash = (in_order_lem g l n, p.no-clash) }
+granted_good name g l t n p = record { each = λ h m. go h m; no_clash = (in_order_lem g l n, p.no_clash) }
   where
     go : (h : Permission) → h ∈ g ∷ l → T (permission_good name h)
     go h (Memᴰ.head e) = subst (λ (z : Permission). T (permission_good name z)) (sym e) t
     go h (Memᴰ.tail m) = p.each h m
 
 pub revoked_good : (name : ℕ) (test : Permission → Bool) (l : List Permission) → GoodPermissions name l → GoodPermissions name (move (keep test) l)
-revoked_good name test l p = record { each = λ h m. p.each h (keep_back test h l m).0; no_clash = no_clash_kept test l p.no-clash }
+revoked_good name test l p = record { each = λ h m. p.each h (keep_back test h l m).0; no_clash = no_clash_kept test l p.no_clash }
 
 -- ---- names
 abbrev pub names : List Holding → List ℕ

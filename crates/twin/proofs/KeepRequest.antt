@@ -57,7 +57,7 @@ rename_good name a t g = record {
   name = t;
   owner = g.owner;
   value = g.value;
-  permissions = record { each = λ p m. rename_permission a.name name p g.name (g.permissions.each p m); no_clash = g.permissions.no-clash };
+  permissions = record { each = λ p m. rename_permission a.name name p g.name (g.permissions.each p m); no_clash = g.permissions.no_clash };
 }
 
 -- ---- what is copied
@@ -82,7 +82,7 @@ module _ (r : Request) (t : Tree Node) (gt : GoodTree t) where
   pasted_attribute_lem empty g n e w = gt
   pasted_attribute_lem (branched s) g n e w = gt
   pasted_attribute_lem (single a) g n e w =
-      hold_good (renamed r.name a) r.path t (rename_good r.name a n g.holding) e w.on-node w.attributes w.permissions gt
+      hold_good (renamed r.name a) r.path t (rename_good r.name a n g.holding) e w.on_node w.attributes w.permissions gt
 
   -- c is what there is to paste, and k the clipboard
   module _ (c k : Clip) (st : Standing) (gc : GoodClip c) (gk : GoodClip k) where
@@ -114,7 +114,7 @@ module _ (r : Request) (t : Tree Node) (gt : GoodTree t) where
         let v = and_yes (name_good r.name) (value_good r.value) w.1 in (
           hold_good (record { name = r.name; owner = r.user; value = r.value; permissions = [] }) r.path t
               (record { name = v.0; owner = w.0.user; value = v.1; permissions = record { each = λ g m. absurd (Memᴰ.not-nil m); no_clash = tt } })
-              (map_missing holding_object (holding_at r.path r.name t) p.free) w.2.on-node w.2.attributes w.2.permissions gt,
+              (map_missing holding_object (holding_at r.path r.name t) p.free) w.2.on_node w.2.attributes w.2.permissions gt,
           gk,
         )
 

@@ -65,13 +65,13 @@ single_represented : (a : Attribute) (l : List Permission) → SoundSingle a l �
 single_represented a l s = (
   record { name = a.name; owner = a.owner; value = a.value; permissions = l },
   record {
-    holding = let w = and_yes (name_good a.name) (user_good a.owner && value_good a.value) s.attribute-good in
+    holding = let w = and_yes (name_good a.name) (user_good a.owner && value_good a.value) s.attribute_good in
         let v = and_yes (user_good a.owner) (value_good a.value) w.1 in
         record {
           name = w.0;
           owner = v.0;
           value = v.1;
-          permissions = record { each = λ g m. (and_yes (leb a.name 65535) (permission_good a.name g) (s.permissions-good g m)).1; no_clash = no_clash_of s.ascend s.no-clash };
+          permissions = record { each = λ g m. (and_yes (leb a.name 65535) (permission_good a.name g) (s.permissions_good g m)).1; no_clash = no_clash_of s.ascend s.no_clash };
         };
     few = s.few;
   },

@@ -149,7 +149,7 @@ once [] f n = tt
 once (g ∷ l) f n = (λ m. n.0 (clash_in g g l m (f g (Memᴰ.head refl))), once l (λ h m. f h (Memᴰ.tail m)) n.1)
 
 pub permissions_once : (k : ℕ) (l : List Permission) → GoodPermissions k l → Distinct l
-permissions_once k l p = once l (λ g m. self_clash k g (p.each g m)) p.no-clash
+permissions_once k l p = once l (λ g m. self_clash k g (p.each g m)) p.no_clash
 
 pub attributes_once : (n : Node) → GoodNode n → Distinct (attribute_items n)
 attributes_once n g = plain_once n.attributes g.distinct

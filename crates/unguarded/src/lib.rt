@@ -1,4 +1,6 @@
 // The calls without a guard, each on the parts of the session that it uses. Signing and taking the log stand with what they change: state::signatures, state::entries.
+#![tactic(auto)]
+
 ghost use Rattle.std.specs.Prelude.{◌≡◌};
 ghost use Rattle.model.specs.Things as things;
 ghost use Rattle.model.specs.Run as run;

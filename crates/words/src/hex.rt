@@ -6,7 +6,7 @@ ghost use Rattle.words.specs.Hex.{is_hex, nibble, pair_at, all_hex, pairs, hex_i
 use crate::is_word;
 
 // How many bytes there are, where the word is bytes and there is room for them.
-#[derive(Drop)]
+#[derive(Clone, Copy)]
 pub enum Count {
     Bad,
     Is(usize),

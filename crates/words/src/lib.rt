@@ -1,4 +1,6 @@
 // The words of a line: bytes between separators, and whether a word is a given one. No input and no output.
+#![tactic(auto)]
+
 ghost use Rattle.std.specs.Prelude.{◌≡◌, ◌≤◌, length};
 ghost use Rattle.laws.specs.Slots.{same_bytes};
 ghost use Rattle.words.specs.Words.{PartEnd, starts};
@@ -50,14 +52,14 @@ pub fn starts_with(s: &[u8], word: &[u8]) -> bool
 }
 
 // Where a word of a line begins and ends.
-#[derive(Drop)]
+#[derive(Clone, Copy)]
 pub struct Word {
     pub start: usize,
     pub end: usize,
 }
 
 // The first words of a line; a call has at most seventeen, so eighteen are too many.
-#[derive(Drop)]
+#[derive(Clone, Copy)]
 pub struct Words {
     pub at: [Word; 18],
     pub count: usize,

@@ -2,31 +2,31 @@
 ghost use Rattle.std.specs.Prelude.{◌≡◌, [], ◌∷◌, ◌≤◌};
 ghost use Rattle.words.specs.Numbers.{scan, decimal, up_to, number_of, byte_of, short_of, long_of, minus, time_in, moment_of};
 
-#[derive(Drop)]
+#[derive(Clone, Copy)]
 pub enum Number {
     Bad,
     Is(u64),
 }
 
-#[derive(Drop)]
+#[derive(Clone, Copy)]
 pub enum Byte {
     Bad,
     Is(u8),
 }
 
-#[derive(Drop)]
+#[derive(Clone, Copy)]
 pub enum Short {
     Bad,
     Is(u16),
 }
 
-#[derive(Drop)]
+#[derive(Clone, Copy)]
 pub enum Long {
     Bad,
     Is(u32),
 }
 
-#[derive(Drop)]
+#[derive(Clone, Copy)]
 pub enum Moment {
     Bad,
     Is(i64),

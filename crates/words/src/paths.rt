@@ -8,7 +8,7 @@ use crate::{is_word, part_end};
 use path::RawPath;
 
 // A path's length says how many steps were written, also where the array has no place for them.
-#[derive(Drop)]
+#[derive(Clone, Copy)]
 pub struct Pathed {
     pub good: bool,
     pub path: RawPath,

@@ -12,7 +12,7 @@ use crate::numbers::{Long, long_in};
 use crate::starts_with;
 use tables::Value;
 
-#[derive(Drop)]
+#[derive(Clone, Copy)]
 pub enum Valued {
     Bad,
     Is(Value),

@@ -33,7 +33,7 @@ good_ones : (c : tie.Else1) → Good (view_request c.before.before.args.r)
 good_ones c = good (view_request c.before.before.args.r) (operands c)
 
 signed-by-requires : tie.Need-signed-by-requires
-signed-by-requires c κs = let g = good_ones c in (g.user-least, g.user-most)
+signed-by-requires c κs = let g = good_ones c in (g.user_least, g.user_most)
 
 placed-requires : tie.Need-placed-requires
 placed-requires c κs = (good_ones c.before).path
