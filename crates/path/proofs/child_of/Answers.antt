@@ -1,0 +1,38 @@
+-- `path::child_of` meets its contract: a digit more, and the length is one more. Assumes nothing.
+use borrow.Author.Rules.{rules}
+use mathlib.Core.Path.{refl, ap, ◌∙◌}
+use mathlib.Core.List.{[], ◌∷◌}
+use Prim.Native.Nat.{◌+◌, ◌-◌, ◌*◌, ◌^◌}
+use native.Mathlib.Omega.{arith}
+use lib.ListN.{length-append}
+use Rattle.path.specs.Address.{child, in_depth}
+use Rattle.path.specs.View.{steps}
+use Rattle.path.proofs.Parts.{in_depth_fits, in_depth_deep}
+use Rattle.path.proofs.Structs.{facts, there, gone}
+use Rattle.path.proofs.Number.{placed_small}
+use Rattle.path.proofs.Steps.{child_path}
+use Rattle.path.proofs.child_of.Goals as goal
+
+pub overflow_add-result : goal.overflow_add-result
+overflow_add-result c = let b = (facts c.args.p c.requires).bound in omega arith
+
+pub overflow_add-result-2 : goal.overflow_add-result-2
+overflow_add-result-2 c =
+    let b = (facts c.args.p c.requires).bound in
+    let k = c.size-k.result in
+    let w = c.wide in
+    let h = placed_small w.result (k + 1) w.ensures.1 in
+    let e = c.placed-more.ensures in omega arith
+
+pub returns : goal.returns
+returns c =
+    let l = child (steps c.args.p) c.args.s in
+    let k = c.size-k in
+    let e = k.ensures.0 in
+    let w = c.wide.ensures in
+    let x = w.0 in
+    let y = w.1 in
+    let n = length-append (steps c.args.p) (c.args.s ∷ []) in
+    there (in_depth l) refl
+    (child_path c.args.p c.requires _ e c.args.s _ (omega arith) (omega arith) (c.placed-more.ensures ∙ ap (λ z. z * 256 ^ (6 - (k.result + 1))) x))
+    (in_depth_fits l (omega arith))

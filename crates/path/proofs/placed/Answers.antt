@@ -1,0 +1,7 @@
+-- `path::placed` meets its contract: no bit is lost. Assumes nothing.
+use borrow.Author.Rules.{rules}
+use Rattle.path.proofs.Number.{placed_is}
+use Rattle.path.proofs.placed.Goals as goal
+
+pub returns : goal.returns
+returns c = placed_is c.args.s c.args.n c.requires.0 c.requires.1

@@ -1,0 +1,16 @@
+-- `path::step_of` meets its contract: digit 0 is the length, so that step i is digit i + 1. Assumes nothing.
+use borrow.Author.Rules.{rules}
+use mathlib.Core.Path.{ap, ◌∙◌}
+use mathlib.Core.List.{◌∷◌}
+use native.Mathlib.Numerals.{add-one}
+use native.Mathlib.Omega.{arith}
+use lib.ListN.{length, get_or}
+use Rattle.path.specs.View.{steps}
+use Rattle.path.proofs.Structs.{facts}
+use Rattle.path.proofs.step_of.Goals as goal
+
+pub overflow_add-i : goal.overflow_add-i
+overflow_add-i c = let n = (facts c.args.p c.requires.0).short in omega arith
+
+pub digit-requires : goal.digit-requires
+digit-requires c = let n = (facts c.args.p c.requires.0).short in omega arith
