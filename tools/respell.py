@@ -71,13 +71,14 @@ def table(top):
             if CAMEL.fullmatch(word) and "-" not in word:
                 ours.add(word)
     words = {snake(n) for n in ours if "-" not in n}
+    of_records = fields(top)
     new = {n: n + "_lem" for n in lemmas & words if n not in ours}
     plain = {n for n in known if n not in ours} | words
     for name in sorted(ours - library):
         to = snake(name)
         if name == "ℕ-order":
             to = "nat_order"
-        if "-" in name and to in plain:
+        if "-" in name and to in plain and name not in of_records:
             to += "_lem"
         new[name] = to
     return new

@@ -110,9 +110,9 @@ pub bad_asked : (q : Question) (d : Option things.Dossier) {b : Bool} → b ≡ 
 bad_asked q d h e = rw (sym h ∙ e)
 
 module _ (q : Question) (h : false ≡ bad_question q) where
-  pub bad_image_lem : {r : Loaded} (l : images.Loaded things.Dossier) → r ≡ loaded_of l → r.good ≡ false → verdicts.Refused 12 ≡ verdict_on q (image_of l)
-  bad_image_lem (images.bad k) e g = rw (sym h)
-  bad_image_lem (images.good d) e g = no (sym (ap (λ x. x.good) e) ∙ g)
+  pub bad_image : {r : Loaded} (l : images.Loaded things.Dossier) → r ≡ loaded_of l → r.good ≡ false → verdicts.Refused 12 ≡ verdict_on q (image_of l)
+  bad_image (images.bad k) e g = rw (sym h)
+  bad_image (images.good d) e g = no (sym (ap (λ x. x.good) e) ∙ g)
 
   pub good_image : {r : Loaded} {v : Verdict} (l : images.Loaded things.Dossier) → r ≡ loaded_of l → r.good ≡ true → v ≡ verdict_in q (view_dossier r.dossier) → v ≡ verdict_on q (image_of l)
   good_image (images.bad k) e g w = no (sym g ∙ ap (λ x. x.good) e)

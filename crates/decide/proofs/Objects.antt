@@ -90,12 +90,12 @@ module _ (f : Object → Option Provisions) where
     pub no_node : a ≡ Nobody → Denied ≡ decision_of (given f (node_at p d))
     no_node h = on_nobody (node_at p d) (sym h ∙ e ∙ node_owner p d)
 
-    pub on_node_lem : {u : ℕ} {r : Decision} → a ≡ User u → r ≡ decision_of (f (record { owner = u; permissions = permissions_in p 0 d.permissions })) → r ≡ decision_of (given f (node_at p d))
-    on_node_lem h = on_user (permissions_in p 0 d.permissions) (node_at p d) (node_with p d) (sym h ∙ e ∙ node_owner p d)
+    pub on_node : {u : ℕ} {r : Decision} → a ≡ User u → r ≡ decision_of (f (record { owner = u; permissions = permissions_in p 0 d.permissions })) → r ≡ decision_of (given f (node_at p d))
+    on_node h = on_user (permissions_in p 0 d.permissions) (node_at p d) (node_with p d) (sym h ∙ e ∙ node_owner p d)
 
   module _ (p : Address) (n : ℕ) (d : Dossier) {a : Found} (e : a ≡ found_of (attribute_in p n d.attributes)) where
-    pub no_attribute_lem : a ≡ Absent → Denied ≡ decision_of (given f (attribute_object p n d))
-    no_attribute_lem h = on_nobody (attribute_object p n d) (ap found_owner (sym h ∙ e) ∙ attribute_owner p n d)
+    pub no_attribute : a ≡ Absent → Denied ≡ decision_of (given f (attribute_object p n d))
+    no_attribute h = on_nobody (attribute_object p n d) (ap found_owner (sym h ∙ e) ∙ attribute_owner p n d)
 
     pub on_attribute : {u : ℕ} {v : Value} {r : Decision} → a ≡ Present u v → r ≡ decision_of (f (record { owner = u; permissions = permissions_in p n d.permissions }))
         → r ≡ decision_of (given f (attribute_object p n d))

@@ -32,8 +32,8 @@ use Rattle.enforce.specs.Requests.{from_of, with_of}
 -- ---- an image that was loaded for its user
 module _ (u : ℕ) (h : T (user_good u)) (b : List ℕ) {l : Loaded} (e : l ≡ loaded_of (load_added u b)) where
   -- a bad one: the record alone
-  pub bad_image_lem : (s : Session) (r : Request) → SessionSound s → l.good ≡ false → record { session = s; answer = plain_of (BadRecord l.«record») } ≡ with_of s r (run.as_branch (load_added u b))
-  bad_image_lem s r k f = go (load_added u b) refl
+  pub bad_image : (s : Session) (r : Request) → SessionSound s → l.good ≡ false → record { session = s; answer = plain_of (BadRecord l.«record») } ≡ with_of s r (run.as_branch (load_added u b))
+  bad_image s r k f = go (load_added u b) refl
     where
       go : (o : images.Loaded things.Dossier) → load_added u b ≡ o → record { session = s; answer = plain_of (BadRecord l.«record») } ≡ with_of s r (run.as_branch (load_added u b))
       go (bad n) q =

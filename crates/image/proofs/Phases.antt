@@ -228,7 +228,7 @@ permissions_begin {b} {n} {k} {nodes} {attributes} {t} u e =
       sound = record { model = []; same = e; fits = record { room = omega arith; each = tt; ascend = nil } };
       upto = subst (λ (l : List (Row (ℕ × things.Permission))). Upto b k (record { nodes = view_nodes nodes; attributes = view_attributes attributes; permissions = l })) (sym w) u.read.upto;
       no_node = u.read.no_node;
-      no_attribute_lem = u.no_attribute;
+      no_attribute = u.no_attribute;
     }
 
 module _ {b : List ℕ} {n k : ℕ} {nodes : Nodes} {attributes : Attributes} {t : Permissions} (u : PermissionsUpto b n k nodes attributes t) (s : parsed.Record) (e : s ≡ record_of (record_at k b)) where
@@ -314,7 +314,7 @@ module _ {b : List ℕ} {n k : ℕ} {nodes : Nodes} {attributes : Attributes} {t
             sound = record { model = view_permissions t ++ (permission.row ∷ []); same = stored_permission; fits = (upto_fits b (suc k) _ more_permissions).permissions };
             upto = upto_one (subst (λ (l : List (Row (ℕ × things.Permission))). Upto b (suc k) (record { nodes = view_nodes nodes; attributes = view_attributes attributes; permissions = l })) (sym v) more_permissions);
             no_node = subst (NotOf 1 b n) (one_more k) (not_after b n k 1 (permission_record permission.row) permission.found (omega arith) (omega arith));
-            no_attribute_lem = subst (NotOf 2 b n) (one_more k) (not_after b n k 2 (permission_record permission.row) permission.found (omega arith) (omega arith));
+            no_attribute = subst (NotOf 2 b n) (one_more k) (not_after b n k 2 (permission_record permission.row) permission.found (omega arith) (omega arith));
           }
 
   -- all that the code asks, in one test

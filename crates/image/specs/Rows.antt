@@ -67,7 +67,7 @@ pub record AttributesUpto (b : List ℕ) (n k : ℕ) (nodes : Nodes) (t : Attrib
 
 pub record AttributesDone (b : List ℕ) (n k : ℕ) (nodes : Nodes) (t : Attributes) : Type 0 where
   pub read : AttributesUpto b n k nodes t
-  pub no_attribute_lem : NotOf 2 b n k
+  pub no_attribute : NotOf 2 b n k
 
 -- ---- the permissions
 pub record PermissionsUpto (b : List ℕ) (n k : ℕ) (nodes : Nodes) (attributes : Attributes) (t : Permissions) : Type 0 where
@@ -77,4 +77,4 @@ pub record PermissionsUpto (b : List ℕ) (n k : ℕ) (nodes : Nodes) (attribute
   pub sound : PermissionsSound t
   pub upto : Upto b k (record { nodes = view_nodes nodes; attributes = view_attributes attributes; permissions = view_permissions t })
   pub no_node : NotOf 1 b n k
-  pub no_attribute_lem : NotOf 2 b n k
+  pub no_attribute : NotOf 2 b n k

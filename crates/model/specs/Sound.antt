@@ -22,7 +22,7 @@ pub record Sound (d : Dossier) : Type 0 where
   pub above : (r : Row ℕ) → r ∈ d.nodes → T (is_root r.0 || there (node_at (parent r.0) d))
   pub left_there_lem : (r : Row ℕ) → r ∈ d.nodes → T (is_root r.0 || (eqb (last r.0) 1 || there (node_at (left r.0) d)))
   -- an attribute's node and a permission's object are there
-  pub on_node_lem : (r : Row Attribute) → r ∈ d.attributes → T (there (node_at r.0 d))
+  pub on_node : (r : Row Attribute) → r ∈ d.attributes → T (there (node_at r.0 d))
   pub on_object : (r : Row (ℕ × Permission)) → r ∈ d.permissions → T (there (object_at r.0 r.1.0 d))
   -- one owner for a node, one attribute for a name, no clash
   pub one_node : (p : Address) (o o' : ℕ) → (p, o) ∈ d.nodes → (p, o') ∈ d.nodes → o ≡ o'
@@ -36,7 +36,7 @@ pub record Sound (d : Dossier) : Type 0 where
 
 -- an attribute on the clipboard with its permissions
 pub record SoundSingle (a : Attribute) (l : List Permission) : Type 0 where
-  pub attribute_good_lem : T (in_range (attribute_record ([], a)))
+  pub attribute_good : T (in_range (attribute_record ([], a)))
   pub ascend : Sorted lt_permission l
   pub permissions_good : (g : Permission) → g ∈ l → T (in_range (permission_record (grant_row [] a.name g)))
   pub no_clash : (g h : Permission) → g ∈ l → h ∈ l → T (clash g h) → g ≡ h

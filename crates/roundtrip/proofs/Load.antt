@@ -121,7 +121,7 @@ module _ (d : Dossier) (s : Sound d) where
   unfolding with_attributes
   attribute_accepted l r m e =
       accept_yes st (attribute_record r)
-      (yes_and (there (node_at p st)) (not (there (attribute_at p n st)) && (ltb (length l) 256 && ltb (length (names_on p st)) 16)) on_node_lem
+      (yes_and (there (node_at p st)) (not (there (attribute_at p n st)) && (ltb (length l) 256 && ltb (length (names_on p st)) 16)) on_node
       (yes_and (not (there (attribute_at p n st))) (ltb (length l) 256 && ltb (length (names_on p st)) 16) (not_T (there (attribute_at p n st)) second)
       (yes_and (ltb (length l) 256) (ltb (length (names_on p st)) 16) (cut_room l r m e 256 s.few_attributes) few_here)))
     where
@@ -137,8 +137,8 @@ module _ (d : Dossier) (s : Sound d) where
       in_d : r ∈ d.attributes
       in_d = cut_here l r m e
 
-      on_node_lem : T (there (node_at p st))
-      on_node_lem = let w = node_in_lem p d (s.on_node r in_d) in node_there p w.0 st w.1
+      on_node : T (there (node_at p st))
+      on_node = let w = node_in_lem p d (s.on_node r in_d) in node_there p w.0 st w.1
 
       second : T (there (attribute_at p n st)) → ⊥
       second t =

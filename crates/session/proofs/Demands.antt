@@ -45,7 +45,7 @@ demand1 = record { started = start_sound; kept = λ s c a t h p. subst SessionSo
 pub record Demand2 : Type 0 where
   -- a request is refused n exactly where the table says so, 12 with a record exactly where request 17's image is bad there, and else carried out; c is what there is to paste
   pub refused : (s : Session) (r : Request) (image : List ℕ) (a : Answer) (t : Session) → Steps s (request r image) a t → (n : ℕ) → (a.outcome ≡ Refused n) ↔ JudgedSo (view_session s) r image n
-  pub bad_image_lem : (s : Session) (r : Request) (image : List ℕ) (a : Answer) (t : Session) → Steps s (request r image) a t → (k : ℕ) → (a.outcome ≡ BadRecord k) ↔ (source (view_session s) r image ≡ bad k)
+  pub bad_image : (s : Session) (r : Request) (image : List ℕ) (a : Answer) (t : Session) → Steps s (request r image) a t → (k : ℕ) → (a.outcome ≡ BadRecord k) ↔ (source (view_session s) r image ≡ bad k)
   pub carried : (s : Session) (r : Request) (image : List ℕ) (a : Answer) (t : Session) → Steps s (request r image) a t
       → (c : Clipboard) → source (view_session s) r image ≡ good c → judged (view_session s) r c ≡ none
       → let d = dossier r.dossier (view_session s) in
@@ -71,7 +71,7 @@ pub record Demand2 : Type 0 where
 pub demand2 : Demand2
 demand2 = record {
   refused = request_refused;
-  bad_image_lem = request_bad;
+  bad_image = request_bad;
   carried = request_carried;
   placed = request_placed;
   read = λ s h n p name o e u π. read_exactly u o (object_no_clash (dossier n (view_session s)) (dossier_sound n (state_sound s h)) p name o e) π;

@@ -36,7 +36,7 @@ use Rattle.twin.proofs.Requests.{numbered}
 use Rattle.deeds.proofs.Left.{clipboard_same}
 use Rattle.enforce.specs.declared.Laden.{Laden}
 use Rattle.enforce.specs.Requests.{left_of, Pastes, from_of, with_of, laden_of}
-use Rattle.enforce.proofs.Placing.{bad_image_lem, good_image, looked, not_looked, adder}
+use Rattle.enforce.proofs.Placing.{bad_image, good_image, looked, not_looked, adder}
 use Rattle.session.specs.Requests.{Carries, laden_step}
 
 -- ---- the number of a request that looks at its image
@@ -159,4 +159,4 @@ module _ (s : Session) (q : structs.Request) (image : List ℕ) (h : SessionSoun
         where
           branch_is : T loaded.good → (laden_of q loaded).clipboard ≡ clipboard_of (things.branch (view_dossier loaded.dossier))
           branch_is g = ap (λ (d : Dossier). record { kind = 1; held = d }) (dossier_same (good_image q.user (adder asked (operands asked (placing t))) image refl e).0)
-      go false e = pick_no loaded.good _ _ (subst T e) ∙ bad_image_lem q.user (adder asked (operands asked (placing t))) image refl s asked h e
+      go false e = pick_no loaded.good _ _ (subst T e) ∙ bad_image q.user (adder asked (operands asked (placing t))) image refl s asked h e

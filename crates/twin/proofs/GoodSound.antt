@@ -162,8 +162,8 @@ module _ (t : Tree Node) (g : GoodTree t) where
       let w = node_row_lem p o h in
       yes_and (valid p) (user_good o) (place_good p t w.0 w.1 g) (subst (λ (k : ℕ). T (user_good k)) (sym w.2) (look_good p t w.0 w.1 g).owner)
 
-  attribute_good_lem : (p : Address) (a : Attribute) → (p, a) ∈ (dossier_of t).attributes → T (in_range (attribute_record (p, a)))
-  attribute_good_lem p a h =
+  attribute_good : (p : Address) (a : Attribute) → (p, a) ∈ (dossier_of t).attributes → T (in_range (attribute_record (p, a)))
+  attribute_good p a h =
       let w = attribute_row p a h in
       yes_and (valid p) _ (place_good p t w.0 w.1 g)
       (subst (λ (b : Attribute). T (name_good b.name && (user_good b.owner && value_good b.value))) w.4 (holding_fits w.2 ((look_good p t w.0 w.1 g).attributes w.2 w.3)))
@@ -197,12 +197,12 @@ module _ (t : Tree Node) (g : GoodTree t) where
     attributes_ascend = table_sorted attribute_items lt_attribute attribute_order t;
     permissions_ascend = table_sorted permission_items lt_named named_order t;
     nodes_good = λ r h. node_good_lem r.0 r.1 h;
-    attributes_good = λ r h. attribute_good_lem r.0 r.1 h;
+    attributes_good = λ r h. attribute_good r.0 r.1 h;
     permissions_good = λ r h. permission_good_lem r.0 r.1 h;
     root = node_there [] (payload t) refl;
     above = λ r h. let w = node_row_lem r.0 r.1 h in above r.0 w.0 w.1;
     left_there_lem = λ r h. let w = node_row_lem r.0 r.1 h in left_there_lem r.0 w.0 w.1;
-    on_node_lem = λ r h. let w = attribute_row r.0 r.1 h in node_there r.0 w.0 w.1;
+    on_node = λ r h. let w = attribute_row r.0 r.1 h in node_there r.0 w.0 w.1;
     on_object = λ r h. let w = permission_row r.0 r.1 h in object_there r.0 r.1 w.0 w.1 w.2;
     one_node = one_node;
     one_attribute = one_attribute;
@@ -216,7 +216,7 @@ module _ (t : Tree Node) (g : GoodTree t) where
 -- ---- the clipboard, the session
 single_sound : (a : Holding) → GoodSingle a → SoundSingle (plain a) (in_order a.permissions)
 single_sound a g = record {
-  attribute_good_lem = holding_fits a g.holding;
+  attribute_good = holding_fits a g.holding;
   ascend = sort_sorted lt_permission permission_order a.permissions;
   permissions_good = λ x m.
       yes_and (leb a.name 65535) (permission_good a.name x) (name_small a.name g.holding.name)

@@ -33,7 +33,7 @@ pub record Within (t : Totals) : Type 0 where
   pub depth : t.depth ≤ 6
   pub children : t.children ≤ 32
   pub attributes : t.attributes ≤ 256
-  pub on_node_lem : t.on_node ≤ 16
+  pub on_node : t.on_node ≤ 16
   pub permissions : t.permissions ≤ 128
 
 pub below : (a b : ℕ) → (T (ltb a b) → ⊥) → b ≤ a
@@ -48,7 +48,7 @@ within t l w =
       depth = below 6 t.depth (subst T w.1.0);
       children = below 32 t.children (subst T w.1.1.0);
       attributes = below 256 t.attributes attributes.0;
-      on_node_lem = below 16 t.on_node attributes.1;
+      on_node = below 16 t.on_node attributes.1;
       permissions = below 128 t.permissions (subst T w.1.1.1.1.0);
     }
 

@@ -86,8 +86,8 @@ module _ (r : Request) (t : Tree Node) (c k : Clip) (st : Standing) (gt : GoodTr
   steps : (n : ℕ) → Passed (numbered n r) (found r t) (cached c) st → T (steps_good r.path)
   steps n p = (request_common (numbered n r) p.operands).steps
 
-  on_node_lem : (T (missing (node_at r.path t)) → ⊥) → (n : Node) × (look r.path t ≡ some n)
-  on_node_lem h = not_missing node_object (look r.path t) h
+  on_node : (T (missing (node_at r.path t)) → ⊥) → (n : Node) × (look r.path t ≡ some n)
+  on_node h = not_missing node_object (look r.path t) h
 
   -- the attribute, and the node it is on
   on_attribute : (T (missing (attribute_object r.path r.name t)) → ⊥) → (a : Holding) × (holding_at r.path r.name t ≡ some a) × ((n : Node) × (look r.path t ≡ some n) × (holding r.name n ≡ some a))
@@ -98,7 +98,7 @@ module _ (r : Request) (t : Tree Node) (c k : Clip) (st : Standing) (gt : GoodTr
 
   copied_branch_lem : (T (missing (node_at r.path t)) → ⊥) → run.clipped (numbered 5 r) (dossier_of t) (clipboard_of k) ≡ clipboard_of (clipped (numbered 5 r) t k)
   copied_branch_lem h =
-      let w = on_node_lem h in
+      let w = on_node h in
       let v = look_branch r.path t w.0 w.1 in
       ap things.branch (copy_same r.path t v.0 v.1) ∙ sym (ap (λ (o : Option (Tree Node)). clipboard_of (copied_branch k o)) v.1)
 
@@ -126,7 +126,7 @@ module _ (r : Request) (t : Tree Node) (c k : Clip) (st : Standing) (gt : GoodTr
 
   add_attribute : Alike 8
   add_attribute p =
-      let w = on_node_lem p.there in
+      let w = on_node p.there in
       (hold_same (record { name = r.name; owner = r.user; value = r.value; permissions = [] }) r.path t w.0 w.1, refl)
 
   delete_attribute_lem : T (name_good r.name) → (T (missing (attribute_object r.path r.name t)) → ⊥) → run.edited (numbered 9 r) (dossier_of t) (clipboard_of c) ≡ dossier_of (edited (numbered 9 r) t c)
@@ -146,7 +146,7 @@ module _ (r : Request) (t : Tree Node) (c k : Clip) (st : Standing) (gt : GoodTr
       go : (b : Clip) → moves.pasted_attribute r.path r.name (dossier_of t) (clipboard_of b) ≡ dossier_of (pasted_attribute (numbered 13 r) t b)
       go empty = refl
       go (branched s) = refl
-      go (single a) = let w = on_node_lem p.there in hold_same (renamed r.name a) r.path t w.0 w.1
+      go (single a) = let w = on_node p.there in hold_same (renamed r.name a) r.path t w.0 w.1
 
   add_permission_lem : (T (missing (object_at r.path r.name t)) → ⊥) → run.edited (numbered 14 r) (dossier_of t) (clipboard_of c) ≡ dossier_of (edited (numbered 14 r) t c)
   add_permission_lem h =

@@ -4,7 +4,7 @@ use borrow.Author.Tests.{not-true, not-false}
 use mathlib.Core.Path.{sym, ◌∙◌}
 use Rattle.model.specs.Image as images
 use Rattle.ask.specs.Verdict.{view_question}
-use Rattle.ask.proofs.Verdicts.{bad_asked, bad_image_lem, good_image, image_fits, path_asked}
+use Rattle.ask.proofs.Verdicts.{bad_asked, bad_image, good_image, image_fits, path_asked}
 use Rattle.ask.proofs.decided.Statement.{statement}
 use Rattle.ask.proofs.decided.Tie as tie
 
@@ -22,7 +22,7 @@ returns-2 c =
     let l = c.before.before in
     let b = l.before.before in
     let a = b.before.before.args in
-    bad_image_lem (view_question a.q) (sym l.before.if1.false ∙ b.bad-question.ensures) (images.load a.image.now) l.load.ensures
+    bad_image (view_question a.q) (sym l.before.if1.false ∙ b.bad-question.ensures) (images.load a.image.now) l.load.ensures
     (not-true _ c.if2.true)
 
 decided-on-requires : tie.Need-decided-on-requires

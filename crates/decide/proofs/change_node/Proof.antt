@@ -8,7 +8,7 @@ use Rattle.tables.specs.View.{view_dossier}
 use Rattle.grants.specs.View.{view_subject}
 use Rattle.grants.specs.declared.Walk.{Walk}
 use Rattle.tables.proofs.Parts.{nodes_sound, permissions_sound}
-use Rattle.decide.proofs.Objects.{no_node, on_node_lem, owning, not_owning, both_joined}
+use Rattle.decide.proofs.Objects.{no_node, on_node, owning, not_owning, both_joined}
 use Rattle.decide.proofs.change_node.Statement.{statement}
 use Rattle.decide.proofs.change_node.Tie as tie
 
@@ -25,7 +25,7 @@ returns : tie.Need-returns
 returns c =
     let k = c.before.before.before in
     let s = k.before.before.before in
-    on_node_lem (change_by (view_subject s.args.s)) (steps s.args.p) (view_dossier s.args.d) k.before.before.owner-in.ensures k.u.given.1
+    on_node (change_by (view_subject s.args.s)) (steps s.args.p) (view_dossier s.args.d) k.before.before.owner-in.ensures k.u.given.1
     (owning _ c.if1.true)
 
 walked-requires : tie.Need-walked-requires
@@ -49,7 +49,7 @@ returns-3 c =
     let a = view_subject s.args.s in
     let l = permissions_in (steps s.args.p) 0 (view_dossier s.args.d).permissions in
     let w = m.walked.ensures in
-    on_node_lem (change_by a) (steps s.args.p) (view_dossier s.args.d) k.before.before.owner-in.ensures k.u.given.1
+    on_node (change_by a) (steps s.args.p) (view_dossier s.args.d) k.before.before.owner-in.ensures k.u.given.1
     (not_owning _ m.before.if1.false (both_joined (matched a 1 l) (matched a 2 l) c.joined.ensures (ap (λ (x : Walk). x.read) w) (ap (λ (x : Walk). x.change) w)))
 
 pub change_node_spec : {M : Type 1} → statement M

@@ -7,7 +7,7 @@ use Rattle.tables.specs.View.{view_dossier}
 use Rattle.grants.specs.View.{view_subject}
 use Rattle.grants.specs.declared.Walk.{Walk}
 use Rattle.tables.proofs.Parts.{attributes_sound, permissions_sound}
-use Rattle.decide.proofs.Objects.{no_attribute_lem, on_attribute, owning, not_owning}
+use Rattle.decide.proofs.Objects.{no_attribute, on_attribute, owning, not_owning}
 use Rattle.decide.proofs.read_attribute.Statement.{statement}
 use Rattle.decide.proofs.read_attribute.Tie as tie
 
@@ -35,7 +35,7 @@ walked-requires c κs =
 returns-2 : tie.Need-returns-2
 returns-2 c =
     let o = c.before.before in
-    no_attribute_lem (read_by (view_subject o.before.args.s)) (steps o.before.args.p) o.before.args.name (view_dossier o.before.args.d) o.attribute-in.ensures c.enum_told.given.1
+    no_attribute (read_by (view_subject o.before.args.s)) (steps o.before.args.p) o.before.args.name (view_dossier o.before.args.d) o.attribute-in.ensures c.enum_told.given.1
 
 returns-3 : tie.Need-returns-3
 returns-3 c =

@@ -7,7 +7,7 @@ use Rattle.tables.specs.View.{view_dossier}
 use Rattle.grants.specs.View.{view_subject}
 use Rattle.grants.specs.declared.Walk.{Walk}
 use Rattle.tables.proofs.Parts.{nodes_sound, permissions_sound}
-use Rattle.decide.proofs.Objects.{no_node, on_node_lem, owning, not_owning}
+use Rattle.decide.proofs.Objects.{no_node, on_node, owning, not_owning}
 use Rattle.decide.proofs.read_node.Statement.{statement}
 use Rattle.decide.proofs.read_node.Tie as tie
 
@@ -24,7 +24,7 @@ returns : tie.Need-returns
 returns c =
     let k = c.before.before.before in
     let s = k.before.before.before in
-    on_node_lem (read_by (view_subject s.args.s)) (steps s.args.p) (view_dossier s.args.d) k.before.before.owner-in.ensures k.u.given.1
+    on_node (read_by (view_subject s.args.s)) (steps s.args.p) (view_dossier s.args.d) k.before.before.owner-in.ensures k.u.given.1
     (owning _ c.if1.true)
 
 walked-requires : tie.Need-walked-requires
@@ -41,7 +41,7 @@ returns-3 : tie.Need-returns-3
 returns-3 c =
     let k = c.before.before.before.before in
     let s = k.before.before.before in
-    on_node_lem (read_by (view_subject s.args.s)) (steps s.args.p) (view_dossier s.args.d) k.before.before.owner-in.ensures k.u.given.1
+    on_node (read_by (view_subject s.args.s)) (steps s.args.p) (view_dossier s.args.d) k.before.before.owner-in.ensures k.u.given.1
     (not_owning _ c.before.if1.false (ap (λ (x : Walk). x.read) c.walked.ensures))
 
 pub read_node_spec : {M : Type 1} → statement M

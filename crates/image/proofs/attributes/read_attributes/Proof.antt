@@ -36,7 +36,7 @@ returns : tie.Need-returns invariant-loop decreases-loop
 returns c =
     let r = c.before.before in
     let l = r.before.before.loop in
-    record { read = l.invariant; no_attribute_lem = λ q f. c.if1.true (ap (λ x. x.kind) r.record-after.ensures ∙ f) }
+    record { read = l.invariant; no_attribute = λ q f. c.if1.true (ap (λ x. x.kind) r.record-after.ensures ∙ f) }
 
 few : (c : tie.Else1 invariant-loop decreases-loop) → c.before.before.before.before.loop.t.count ≤ 256
 few c =
@@ -174,7 +174,7 @@ loop-again c =
 returns-3 : tie.Need-returns-3 invariant-loop decreases-loop
 returns-3 c =
     let l = c.before.loop in
-    record { read = l.invariant; no_attribute_lem = λ q. absurd (omega arith) }
+    record { read = l.invariant; no_attribute = λ q. absurd (omega arith) }
 
 pub read_attributes_spec : {M : Type 1} → statement M
 read_attributes_spec =

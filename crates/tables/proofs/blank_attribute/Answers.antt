@@ -3,14 +3,7 @@ use borrow.Author.Rules.{rules}
 use mathlib.Core.Path.{◌∙◌}
 use Rattle.tables.specs.declared.Value.TheVariants.{Whole}
 use Rattle.tables.proofs.Rows.{blank_path_lem}
-use Rattle.tables.proofs.blank_attribute.Statement.{statement}
-use Rattle.tables.proofs.blank_attribute.Tie as tie
+use Rattle.tables.proofs.blank_attribute.Goals as goal
 
-root-requires : tie.Need-root-requires
-root-requires c κs = search rules
-
-returns : tie.Need-returns
+pub returns : goal.returns
 returns c = let e = c.root.ensures ∙ blank_path_lem in λ i. record { path = e i; name = 0; owner = 0; value = Whole 0 }
-
-pub blank_attribute_spec : {M : Type 1} → statement M
-blank_attribute_spec = tie.close (tie.spec root-requires returns)

@@ -3,14 +3,7 @@ use borrow.Author.Rules.{rules}
 use mathlib.Core.Path.{◌∙◌}
 use Rattle.tables.specs.View.{blank_grant}
 use Rattle.tables.proofs.Rows.{blank_path_lem}
-use Rattle.tables.proofs.blank_permission.Statement.{statement}
-use Rattle.tables.proofs.blank_permission.Tie as tie
+use Rattle.tables.proofs.blank_permission.Goals as goal
 
-root-requires : tie.Need-root-requires
-root-requires c κs = search rules
-
-returns : tie.Need-returns
+pub returns : goal.returns
 returns c = let e = c.root.ensures ∙ blank_path_lem in λ i. record { path = e i; name = 0; grant = blank_grant }
-
-pub blank_permission_spec : {M : Type 1} → statement M
-blank_permission_spec = tie.close (tie.spec root-requires returns)

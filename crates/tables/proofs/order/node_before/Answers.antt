@@ -1,0 +1,16 @@
+-- `tables::order::node_before` meets its contract: by the keys of their paths, then by owner. Assumes nothing.
+use borrow.Author.Rules.{rules}
+use mathlib.Core.Path.{◌∙◌}
+use lib.Dec.{ltb}
+use Rattle.tables.proofs.Compare.{lexed_or, keyed}
+use Rattle.tables.proofs.Rows.{node_path}
+use Rattle.tables.proofs.order.node_before.Goals as goal
+
+pub returns : goal.returns
+returns c =
+    let a = c.args.a in
+    let b = c.args.b in
+    let j = c.key-j.result in
+    let k = c.key-k.result in
+    let t = ltb c.args.a.owner c.args.b.owner in
+    lexed_or j k t ∙ keyed a.path b.path (node_path c.requires.0) (node_path c.requires.1) j k c.key-j.ensures c.key-k.ensures t
