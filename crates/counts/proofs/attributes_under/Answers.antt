@@ -1,0 +1,42 @@
+-- `counts::attributes_under` meets its contract: it counts the rows at or below q. Assumes nothing.
+use borrow.Author.Rules.{rules}
+use mathlib.Core.Path.{◌≡◌, sym, ◌∙◌}
+use mathlib.Core.List.{◌∷◌}
+use Prim.Native.Nat.{◌+◌, ◌-◌, ◌≤◌}
+use lib.ListN.{drop, get_or}
+use Rattle.laws.proofs.Fill.{held_room, held_each, held_next, row_end}
+use Rattle.path.specs.Address.{off}
+use Rattle.model.specs.Moves.{carry}
+use Rattle.path.specs.View.{steps}
+use Rattle.tables.specs.View.{view_attribute, view_attributes, no_attribute, AttributeSound}
+use Rattle.tables.proofs.Rows.{attribute_path, attributes_held}
+use Rattle.tables.proofs.Asked.{Counts, count_begin, count_hit, count_miss, count_done, off_there}
+use Rattle.counts.proofs.attributes_under.Goals as goal
+use Rattle.counts.proofs.attributes_under.Goals.{In-loop-i}
+
+pub loop-i-init : goal.loop-i-init
+loop-i-init c = (search rules, held_room _ _ _ _ _ _ (attributes_held c.args.t c.requires.0), count_begin _ _)
+
+next : (c : In-loop-i) → drop c.loop-i.i (view_attributes c.args.t)
+    ≡ view_attribute (get_or c.args.t.rows c.loop-i.i no_attribute) ∷ drop (c.loop-i.i + 1) (view_attributes c.args.t)
+next c =
+    held_next _ _ _ _ _ _ (attributes_held c.args.t c.requires.0) view_attribute c.loop-i.i no_attribute c.loop-i-test.true
+
+row : (c : In-loop-i) → AttributeSound (get_or c.args.t.rows c.loop-i.i no_attribute)
+row c =
+    held_each _ _ _ _ _ _ (attributes_held c.args.t c.requires.0) c.loop-i.i no_attribute c.loop-i-test.true
+
+pub is_under-requires : goal.is_under-requires
+is_under-requires c = (attribute_path (row (goal.at.is_under-requires c).In-loop-i), c.requires.1)
+
+pub loop-i-preserved-then-is_under : goal.loop-i-preserved-then-is_under
+loop-i-preserved-then-is_under c =
+    let l = c.loop-i in
+    let x = get_or c.args.t.rows l.i no_attribute in
+    (search rules, search rules, count_hit _ _ l.i l.found l.invariant.2 (view_attribute x) (next (goal.at.loop-i-preserved-then-is_under c).In-loop-i) (sym (off_there (steps c.args.q) (view_attribute x)) ∙ sym c.is_under.ensures ∙ c.if-is_under.true))
+
+pub loop-i-preserved : goal.loop-i-preserved
+loop-i-preserved c =
+    let l = c.loop-i in
+    let x = get_or c.args.t.rows l.i no_attribute in
+    (search rules, search rules, count_miss _ _ l.i l.found l.invariant.2 (view_attribute x) (next (goal.at.loop-i-preserved c).In-loop-i) (sym (off_there (steps c.args.q) (view_attribute x)) ∙ sym c.is_under.ensures ∙ c.if-is_under.false))

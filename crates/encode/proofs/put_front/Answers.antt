@@ -1,0 +1,28 @@
+-- `encode::put_front` meets its contract: kind, path, name and six bytes, one behind the other. Assumes nothing.
+use borrow.Author.Rules.{rules}
+use mathlib.Core.List.{[], ◌∷◌, ◌++◌}
+use mathlib.Core.Path.{refl}
+use Prim.Native.Nat.{◌+◌}
+use native.Mathlib.Omega.{arith}
+use lib.ListN.{set, length-set}
+use Rattle.laws.proofs.Put.{run, then}
+use Rattle.path.specs.Bytes.{step_bytes}
+use Rattle.path.specs.View.{steps}
+use Rattle.model.specs.Image.{bytes2}
+use Rattle.encode.proofs.Parts.{behind, steps_length, front_put}
+use Rattle.encode.proofs.put_front.Goals as goal
+
+pub returns : goal.returns
+returns c =
+    let a = c.args in
+    let l = a.out.now in
+    let room = c.requires.1 in
+    let c1 = c.put_path in
+    let c2 = c.put2 in
+    let c3 = c.put_six in
+    let path = steps a.path in
+    let n = steps_length a.path c.requires.0 in
+    let six = a.owner ∷ a.role ∷ a.action ∷ a.user ∷ a.value ∷ 0 ∷ [] in
+    front_put a.path c.requires.0 l c1.new.0 c3.new.0 a.at room a.kind (bytes2 a.name ++ six)
+    (then l (set l a.at a.kind) c1.new.0 a.at (a.kind ∷ []) (step_bytes path) (run a.kind [] l a.at (omega arith)) c1.ensures (omega arith))
+    (λ e. behind c1.new.0 c2.new.0 c3.new.0 (a.at + 8) (a.at + 10) (bytes2 a.name) six c2.ensures c3.ensures (omega arith) (omega arith)) refl

@@ -1,0 +1,80 @@
+-- `grants::walked` meets its contract: the walk begins at the object's place, asks each of its permissions for every action, and ends at the first row of another object. Assumes nothing.
+use Prim.Native.Nat.{◌+◌, ◌-◌, ◌/◌, ◌<◌, ◌≤◌, ℕ}
+use Rattle.grants.proofs.Gather.{Gathers, gather_all, gather_end, gather_other, gather_row}
+use Rattle.grants.proofs.Told.{walk_from, walk_end, walk_next}
+use Rattle.grants.specs.View.{view_subject, walk_of}
+use Rattle.grants.specs.declared.Decision.TheVariants.{Denied}
+use Rattle.laws.proofs.Fill.{held_each, held_room}
+use Rattle.laws.proofs.Search.{place_most, row_side}
+use Rattle.model.specs.Moves.{permissions_in}
+use Rattle.path.specs.View.{steps}
+use Rattle.tables.proofs.Places.{permissions_searched}
+use Rattle.tables.proofs.Rows.{permission_path, permissions_held}
+use Rattle.tables.specs.Places.{permission_place}
+use Rattle.tables.specs.View.{no_permission, view_grant, view_permissions}
+use borrow.Author.Rules.{rules}
+use borrow.Author.Tests.{ltb-false, ltb-true}
+use lib.Dec.{ltb}
+use lib.ListN.{get_or}
+use mathlib.Core.Path.{◌∙◌, ◌≡◌, sym}
+use native.Mathlib.Omega.{arith}
+use Rattle.grants.proofs.walked.Goals as goal
+use Rattle.grants.proofs.walked.Goals.{After-object_before, In-loop-i}
+
+pub loop-i-init : goal.loop-i-init
+loop-i-init c = (search rules, place_most (permissions_searched c.requires.0) (steps c.args.p, c.args.name), search rules, held_room _ _ _ _ _ _ (permissions_held c.args.t c.requires.0))
+
+-- the row looked at, the place looked for; the row is there, and its test says on which side of it the place is
+abbrev mid : In-loop-i → ℕ
+mid c = c.loop-i.i + (c.loop-i.hi - c.loop-i.i) / 2
+
+abbrev sought : In-loop-i → ℕ
+sought c = permission_place (steps c.args.p, c.args.name) (view_permissions c.args.t)
+
+inside : (c : In-loop-i) → mid c < c.args.t.count
+inside c = omega arith
+
+side : (c : After-object_before) → ltb (mid (goal.at-After-object_before c).In-loop-i) (sought (goal.at-After-object_before c).In-loop-i) ≡ c.object_before.result
+side c =
+    row_side (permissions_searched c.requires.0) (steps c.args.p, c.args.name) (mid (goal.at-After-object_before c).In-loop-i) no_permission (inside (goal.at-After-object_before c).In-loop-i) ∙ sym c.object_before.ensures
+
+pub object_before-requires : goal.object_before-requires
+object_before-requires c =
+    (permission_path (held_each _ _ _ _ _ _ (permissions_held c.args.t c.requires.0) (mid (goal.at.object_before-requires c).In-loop-i) no_permission (inside (goal.at.object_before-requires c).In-loop-i)), c.requires.1)
+
+pub loop-i-preserved-then-object_before : goal.loop-i-preserved-then-object_before
+loop-i-preserved-then-object_before c = let f = ltb-true (mid (goal.at.loop-i-preserved-then-object_before c).In-loop-i) (sought (goal.at.loop-i-preserved-then-object_before c).In-loop-i) (side (goal.at.loop-i-preserved-then-object_before c).After-object_before ∙ c.if-object_before.true) in omega arith
+
+pub loop-i-preserved : goal.loop-i-preserved
+loop-i-preserved c = let f = ltb-false (mid (goal.at.loop-i-preserved c).In-loop-i) (sought (goal.at.loop-i-preserved c).In-loop-i) (side (goal.at.loop-i-preserved c).After-object_before ∙ c.if-object_before.false) in omega arith
+
+pub loop-i-2-init : goal.loop-i-2-init
+loop-i-2-init c =
+    let l = c.loop-i in
+    let e : l.i ≡ permission_place (steps c.args.p, c.args.name) (view_permissions c.args.t) = omega arith in
+    (omega arith, l.invariant.3, gather_all (walk_from Denied Denied Denied (view_subject c.args.s)) _ _ _ l.i c.requires.0 e)
+
+pub is_same-requires : goal.is_same-requires
+is_same-requires c =
+    let row = held_each _ _ _ _ _ _ (permissions_held c.args.t c.requires.0) c.loop-i-2.i no_permission c.loop-i-2-test.true in
+    (permission_path row, c.requires.1)
+
+pub loop-i-2-preserved-then-row-name : goal.loop-i-2-preserved-then-row-name
+loop-i-2-preserved-then-row-name c =
+    let l = c.loop-i-2 in
+    let a = view_subject c.args.s in
+    let next =
+    walk_next l.read l.change l.delegate a (view_grant (get_or c.args.t.rows l.i no_permission).grant)
+    c.given.ensures c.first_of-read.ensures c.given-then-row-name.ensures c.first_of-change.ensures c.given-then-row-name-2.ensures c.first_of-delegate.ensures
+    in (
+      search rules,
+      search rules,
+      gather_row (walk_from l.read l.change l.delegate a) _ _ _ l.i l.invariant.2 c.requires.0 c.loop-i-2-test.true c.is_same.ensures
+          (walk_from c.first_of-read.result c.first_of-change.result c.first_of-delegate.result a) c.if-row-name.true next,
+    )
+
+pub loop-i-2-preserved : goal.loop-i-2-preserved
+loop-i-2-preserved c =
+    let l = c.loop-i-2 in
+    let a = view_subject c.args.s in
+    (search rules, search rules, gather_other (walk_from l.read l.change l.delegate a) _ _ _ l.i l.invariant.2 c.requires.0 c.loop-i-2-test.true c.is_same.ensures c.if-row-name.false)

@@ -1,0 +1,85 @@
+-- `lookups::count_on` meets its contract: it counts the rows at p, which begin at its place. Assumes nothing.
+use Prim.Native.Nat.{◌+◌, ◌-◌, ◌/◌, ◌<◌, ◌≤◌, ℕ}
+use Rattle.laws.proofs.Fill.{held_each, held_next, held_room, row_end}
+use Rattle.laws.proofs.Search.{place_most, row_side, rows_from, rows_other}
+use Rattle.laws.specs.Sorted.{move}
+use Rattle.model.specs.Moves.{at}
+use Rattle.path.specs.View.{steps}
+use Rattle.tables.proofs.Asked.{Counts, at_there, count_done, count_hit}
+use Rattle.tables.proofs.Places.{at_path, attributes_by_path}
+use Rattle.tables.proofs.Rows.{attribute_path, attributes_held}
+use Rattle.tables.specs.Places.{place_of}
+use Rattle.tables.specs.View.{AttributeSound, no_attribute, view_attribute, view_attributes}
+use borrow.Author.Rules.{rules}
+use borrow.Author.Tests.{ltb-false, ltb-true}
+use lib.Dec.{ltb}
+use lib.ListN.{drop, get_or, length, length-map}
+use mathlib.Core.List.{◌∷◌}
+use mathlib.Core.Path.{◌∙◌, ◌≡◌, sym}
+use native.Mathlib.Omega.{arith}
+use Rattle.lookups.proofs.count_on.Goals as goal
+use Rattle.lookups.proofs.count_on.Goals.{After-is_before, In-loop-i, In-loop-i-2}
+
+pub loop-i-init : goal.loop-i-init
+loop-i-init c = (search rules, place_most (attributes_by_path c.requires.0) (steps c.args.p), search rules, held_room _ _ _ _ _ _ (attributes_held c.args.t c.requires.0))
+
+-- the row looked at, the place looked for; the row is there, and its test says on which side of it the place is
+abbrev mid : In-loop-i → ℕ
+mid c = c.loop-i.i + (c.loop-i.hi - c.loop-i.i) / 2
+
+abbrev sought : In-loop-i → ℕ
+sought c = place_of (steps c.args.p) (view_attributes c.args.t)
+
+inside : (c : In-loop-i) → mid c < c.args.t.count
+inside c = omega arith
+
+side : (c : After-is_before) → ltb (mid (goal.at-After-is_before c).In-loop-i) (sought (goal.at-After-is_before c).In-loop-i) ≡ c.is_before.result
+side c =
+    row_side (attributes_by_path c.requires.0) (steps c.args.p) (mid (goal.at-After-is_before c).In-loop-i) no_attribute (inside (goal.at-After-is_before c).In-loop-i) ∙ sym c.is_before.ensures
+
+pub is_before-requires : goal.is_before-requires
+is_before-requires c =
+    (attribute_path (held_each _ _ _ _ _ _ (attributes_held c.args.t c.requires.0) (mid (goal.at.is_before-requires c).In-loop-i) no_attribute (inside (goal.at.is_before-requires c).In-loop-i)), c.requires.1)
+
+pub loop-i-preserved-then-is_before : goal.loop-i-preserved-then-is_before
+loop-i-preserved-then-is_before c = let f = ltb-true (mid (goal.at.loop-i-preserved-then-is_before c).In-loop-i) (sought (goal.at.loop-i-preserved-then-is_before c).In-loop-i) (side (goal.at.loop-i-preserved-then-is_before c).After-is_before ∙ c.if-is_before.true) in omega arith
+
+pub loop-i-preserved : goal.loop-i-preserved
+loop-i-preserved c = let f = ltb-false (mid (goal.at.loop-i-preserved c).In-loop-i) (sought (goal.at.loop-i-preserved c).In-loop-i) (side (goal.at.loop-i-preserved c).After-is_before ∙ c.if-is_before.false) in omega arith
+
+pub loop-i-2-init : goal.loop-i-2-init
+loop-i-2-init c =
+    let l = c.loop-i in
+    let p = steps c.args.p in
+    let e : l.i ≡ place_of p (view_attributes c.args.t) = omega arith in
+    let same_count = rows_from (attributes_by_path c.requires.0) p (at_path p length) e in
+    (omega arith, l.invariant.3, omega arith, record { few = omega arith; rest = omega arith })
+
+next : (c : In-loop-i-2) → drop c.loop-i-2.i (view_attributes c.args.t)
+    ≡ view_attribute (get_or c.args.t.rows c.loop-i-2.i no_attribute) ∷ drop (c.loop-i-2.i + 1) (view_attributes c.args.t)
+next c =
+    held_next _ _ _ _ _ _ (attributes_held c.args.t c.requires.0) view_attribute c.loop-i-2.i no_attribute c.loop-i-2-test.true
+
+row : (c : In-loop-i-2) → AttributeSound (get_or c.args.t.rows c.loop-i-2.i no_attribute)
+row c =
+    held_each _ _ _ _ _ _ (attributes_held c.args.t c.requires.0) c.loop-i-2.i no_attribute c.loop-i-2-test.true
+
+pub is_same-requires : goal.is_same-requires
+is_same-requires c = (attribute_path (row (goal.at.is_same-requires c).In-loop-i-2), c.requires.1)
+
+pub loop-i-2-preserved : goal.loop-i-2-preserved
+loop-i-2-preserved c =
+    let l = c.loop-i-2 in
+    let x = view_attribute (get_or c.args.t.rows l.i no_attribute) in
+    let hit = sym (at_there (steps c.args.p) x) ∙ sym c.is_same.ensures ∙ c.if-is_same.true in
+    (search rules, search rules, search rules, count_hit _ _ l.i l.found l.invariant.3 x (next (goal.at.loop-i-2-preserved c).In-loop-i-2) hit)
+
+-- the names are as many as the rows
+pub returns-else-is_same : goal.returns-else-is_same
+returns-else-is_same c =
+    let l = c.loop-i-2 in
+    let p = steps c.args.p in
+    let last = rows_other (attributes_by_path c.requires.0) p (at_path p length) l.i no_attribute l.invariant.2 c.loop-i-2-test.true (sym c.is_same.ensures ∙ c.if-is_same.false) in
+    let rest = l.invariant.3.rest in
+    let named = length-map (move (at p) (view_attributes c.args.t)) (λ a. a.name) in
+    omega arith

@@ -1,0 +1,41 @@
+-- `state::entries::taken` meets its contract: all entries are written and the log is empty, or nothing changes. Assumes nothing.
+use mathlib.Core.Path.{◌≡◌, sym, ap, ◌∙◌}
+use mathlib.Core.Bool.{true, false}
+use mathlib.Core.List.{[]}
+use Prim.Native.Nat.{ℕ, ◌*◌}
+use native.Mathlib.Omega.{arith}
+use borrow.Author.Rules.{rules}
+use borrow.Author.Tests.{lt-ltb, le-ltb}
+use lib.ListN.{length}
+use lib.Dec.{ltb}
+use Rattle.model.specs.Run.{short, log_bytes, written}
+use Rattle.state.specs.declared.Log.{Log}
+use Rattle.state.specs.declared.Outcome.TheVariants.{Wrote}
+use Rattle.state.specs.View.{view_log, log_of, plain_of}
+use Rattle.state.specs.Calls.{LogSound}
+use Rattle.state.proofs.Logs.{log_count, log_room}
+use Rattle.state.proofs.Taking.{log_bytes_lem, take_refused, take_done}
+use Rattle.state.proofs.entries.taken.Goals as goal
+
+-- two bytes an entry
+need : (t : Log) → LogSound t → length (log_bytes (view_log t)) ≡ 2 * t.count
+need t h = log_bytes_lem (view_log t) ∙ ap (λ n. 2 * n) (sym (log_count t h))
+
+pub overflow_mul-n : goal.overflow_mul-n
+overflow_mul-n c = let h = log_room c.args.log c.requires in omega arith
+
+pub returns-then-out-n : goal.returns-then-out-n
+returns-then-out-n c =
+    let n = need c.args.log c.requires in
+    let b = c.args.out.now in
+    let w = take_refused c.args.log c.requires b (lt-ltb (length b) (length (log_bytes (view_log c.args.log))) (omega (arith, n, c.if-out-n.true))) in
+    (ap (λ a. record { log = c.args.log; answer = a }) c.plain.ensures ∙ w.0, w.1)
+
+pub returns : goal.returns
+returns c =
+    let n = need c.args.log c.requires in
+    let b = c.args.out.now in
+    let w = take_done c.args.log b (le-ltb (length b) (length (log_bytes (view_log c.args.log))) (omega (arith, n, c.if-out-n.false))) in (
+      (λ i. record { log = c.no_entries.ensures i; answer = c.plain-2.ensures i }) ∙ ap (λ k. record { log = log_of []; answer = plain_of (Wrote k) }) (sym n) ∙ w.0,
+      c.put_entries.ensures ∙ w.1,
+    )

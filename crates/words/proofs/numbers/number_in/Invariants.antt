@@ -1,0 +1,15 @@
+-- `words::numbers::number_in` meets its contract. The loop's invariant: the bytes not yet seen go on from the number so far. Assumes nothing.
+use mathlib.Core.Path.{◌≡◌, sym, ap, ◌∙◌}
+use Prim.Native.Nat.{◌-◌, ◌≤◌}
+use mathlib.Core.List.{[], ◌∷◌}
+use lib.ListN.{length, drop, get_or}
+use Rattle.words.specs.Numbers.{scan, decimal, up_to, number_of}
+use Rattle.words.proofs.Decimals.{none_there, begin, answered_fits, loop_turn, loop_stop, loop_end}
+use borrow.Author.Rules.{rules}
+use Rattle.words.proofs.numbers.number_in.Given as goal
+
+abbrev pub invariant-loop-i : goal.invariant-loop-i
+invariant-loop-i l = (l.n ≤ l.max) × (up_to l.max (decimal l.s) ≡ up_to l.max (scan l.n (drop l.i l.s)))
+
+abbrev pub decreases-loop-i : goal.decreases-loop-i
+decreases-loop-i l = length l.s - l.i
