@@ -11,4 +11,4 @@ returns c =
     let a = c.args in
     let c1 = c.put2 in
     let c2 = c.put2-2 in
-    then a.out.now c1.new.0 c2.new.0 a.at (bytes2 (a.n / 65536)) (bytes2 (a.n % 65536)) c1.ensures c2.ensures (omega (arith, c.requires))
+    then a.out.now c1.new.out c2.new.out a.at (bytes2 (a.n / 65536)) (bytes2 (a.n % 65536)) c1.ensures c2.ensures (omega (arith, c.requires))

@@ -11,4 +11,4 @@ returns c =
     let a = c.args in
     let c1 = c.put4 in
     let c2 = c.put4-2 in
-    then a.out.now c1.new.0 c2.new.0 a.at (bytes4 (a.n / 4294967296)) (bytes4 (a.n % 4294967296)) c1.ensures c2.ensures (omega (arith, c.requires))
+    then a.out.now c1.new.out c2.new.out a.at (bytes4 (a.n / 4294967296)) (bytes4 (a.n % 4294967296)) c1.ensures c2.ensures (omega (arith, c.requires))

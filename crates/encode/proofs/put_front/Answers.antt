@@ -23,6 +23,6 @@ returns c =
     let path = steps a.path in
     let n = steps_length a.path c.requires.0 in
     let six = a.owner ∷ a.role ∷ a.action ∷ a.user ∷ a.value ∷ 0 ∷ [] in
-    front_put a.path c.requires.0 l c1.new.0 c3.new.0 a.at room a.kind (bytes2 a.name ++ six)
-    (then l (set l a.at a.kind) c1.new.0 a.at (a.kind ∷ []) (step_bytes path) (run a.kind [] l a.at (omega arith)) c1.ensures (omega arith))
-    (λ e. behind c1.new.0 c2.new.0 c3.new.0 (a.at + 8) (a.at + 10) (bytes2 a.name) six c2.ensures c3.ensures (omega arith) (omega arith)) refl
+    front_put a.path c.requires.0 l c1.new.out c3.new.out a.at room a.kind (bytes2 a.name ++ six)
+    (then l (set l a.at a.kind) c1.new.out a.at (a.kind ∷ []) (step_bytes path) (run a.kind [] l a.at (omega arith)) c1.ensures (omega arith))
+    (λ e. behind c1.new.out c2.new.out c3.new.out (a.at + 8) (a.at + 10) (bytes2 a.name) six c2.ensures c3.ensures (omega arith) (omega arith)) refl

@@ -16,4 +16,4 @@ returns c =
     let c1 = c.put_front in
     let c2 = c.put_zeros in
     let n = front_length a.a.path (node_path c.requires.0) 1 0 a.a.owner 0 0 0 0 in
-    behind a.out.now c1.new.0 c2.new.0 a.at (a.at + 16) (front 1 (steps a.a.path) 0 a.a.owner 0 0 0 0) (replicate 24 0) c1.ensures c2.ensures (omega arith) (omega arith)
+    behind a.out.now c1.new.out c2.new.out a.at (a.at + 16) (front 1 (steps a.a.path) 0 a.a.owner 0 0 0 0) (replicate 24 0) c1.ensures c2.ensures (omega arith) (omega arith)

@@ -19,5 +19,5 @@ returns c =
     let c1 = c.put_front in
     let c2 = c.put_terms in
     let n = front_length a.a.path (permission_path c.requires.0) 3 a.a.name 0 g.role g.action g.user 0 in
-    behind a.out.now c1.new.0 c2.new.0 a.at (a.at + 16) (front 3 (steps a.a.path) a.a.name 0 g.role g.action g.user 0)
+    behind a.out.now c1.new.out c2.new.out a.at (a.at + 16) (front 3 (steps a.a.path) a.a.name 0 g.role g.action g.user 0)
     (bytes8 (of_z w64 g.span.first) ++ (bytes8 (of_z w64 g.span.last) ++ (bytes4 g.messages ++ bytes4 g.agreements))) c1.ensures c2.ensures (omega arith) (omega arith)

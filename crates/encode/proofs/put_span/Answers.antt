@@ -19,5 +19,5 @@ returns c =
     let c2 = c.put8-2 in
     let f = c.bits_of_time.ensures ∙ ap (of_z w64) (to_z-of_z w64 a.s.first (record { sfits = c.struct_told-1.given.0.1 })) in
     let g = c.bits_of_time-2.ensures ∙ ap (of_z w64) (to_z-of_z w64 a.s.last (record { sfits = c.struct_told-2-1.given.1.0.1 })) in
-    then l c1.new.0 c2.new.0 a.at (bytes8 (of_z w64 a.s.first)) (bytes8 (of_z w64 a.s.last)) (c1.ensures ∙ ap (λ (n : ℕ). put l a.at (bytes8 n)) f)
-    (c2.ensures ∙ ap (λ (n : ℕ). put c1.new.0 (a.at + 8) (bytes8 n)) g) (omega (arith, c.requires))
+    then l c1.new.out c2.new.out a.at (bytes8 (of_z w64 a.s.first)) (bytes8 (of_z w64 a.s.last)) (c1.ensures ∙ ap (λ (n : ℕ). put l a.at (bytes8 n)) f)
+    (c2.ensures ∙ ap (λ (n : ℕ). put c1.new.out (a.at + 8) (bytes8 n)) g) (omega (arith, c.requires))

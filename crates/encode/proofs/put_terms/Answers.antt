@@ -17,5 +17,5 @@ returns c =
     let c2 = c.put4 in
     let c3 = c.put4-2 in
     let times = bytes8 (of_z w64 g.span.first) ++ bytes8 (of_z w64 g.span.last) in
-    then l c2.new.0 c3.new.0 a.at (times ++ bytes4 g.messages) (bytes4 g.agreements)
-    (then l c1.new.0 c2.new.0 a.at times (bytes4 g.messages) c1.ensures c2.ensures (omega (arith, c.requires))) c3.ensures (omega (arith, c.requires))
+    then l c2.new.out c3.new.out a.at (times ++ bytes4 g.messages) (bytes4 g.agreements)
+    (then l c1.new.out c2.new.out a.at times (bytes4 g.messages) c1.ensures c2.ensures (omega (arith, c.requires))) c3.ensures (omega (arith, c.requires))

@@ -11,5 +11,5 @@ use Rattle.words.proofs.numbers.number_in.Goals as goal
 pub returns-in-Bad : goal.returns-in-Bad
 returns-in-Bad c =
     let a = c.args in
-    let r = sym c.enum_told-1.given.1 ∙ c.more.ensures in
+    let r = sym c.in-Bad.is ∙ c.more.ensures in
     loop_stop a.s.now a.max c.loop-i.i c.loop-i.n c.loop-i.invariant.1 c.loop-i-test.true r

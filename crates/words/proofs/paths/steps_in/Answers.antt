@@ -12,8 +12,8 @@ use Rattle.words.proofs.paths.steps_in.Goals as goal
 pub returns-then-end-s : goal.returns-then-end-s
 returns-then-end-s c =
     let s = c.args.s.now in
-    let n = c.n-1.given.0.0 in
-    let e = byte_is _ c.n-1.given.0.0 (sym c.n-1.given.1 ∙ c.byte_in.ensures) in
+    let n = c.in-Is.n in
+    let e = byte_is _ c.in-Is.n (sym c.in-Is.is ∙ c.byte_in.ensures) in
     let x = c.if-path.false in
     ap (λ p. record { good = true; path = p }) (end_held s c.loop-at.at c.part_end-end.result c.loop-at.path c.loop-at.invariant c.part_end-end.ensures n e c.with_step-path.result c.with_step-path.ensures x)
     ∙ sym (ap pathed_of (steps_end s c.loop-at.at c.part_end-end.result c.loop-at.path c.loop-at.invariant c.part_end-end.ensures n e c.with_step-path.result c.with_step-path.ensures x c.if-end-s.true))
@@ -21,4 +21,4 @@ returns-then-end-s c =
 pub loop-at-preserved : goal.loop-at-preserved
 loop-at-preserved c =
     let s = c.args.s.now in
-    steps_next s c.loop-at.at c.part_end-end.result c.loop-at.path c.loop-at.invariant c.part_end-end.ensures c.n-1.given.0.0 (byte_is _ c.n-1.given.0.0 (sym c.n-1.given.1 ∙ c.byte_in.ensures)) c.with_step-path.result c.with_step-path.ensures c.if-path.false c.if-end-s.false
+    steps_next s c.loop-at.at c.part_end-end.result c.loop-at.path c.loop-at.invariant c.part_end-end.ensures c.in-Is.n (byte_is _ c.in-Is.n (sym c.in-Is.is ∙ c.byte_in.ensures)) c.with_step-path.result c.with_step-path.ensures c.if-path.false c.if-end-s.false
