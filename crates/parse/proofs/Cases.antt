@@ -95,10 +95,10 @@ module _ (c : List ℕ) (bytes : Bytes (2 ∷ spelt 39 c)) where
   abbrev four : List ℕ
   four = take 4 (drop 15 (spelt 39 c))
 
-  attribute_good : ((name_good name && (user_good owner && value_good value)) && same_bytes (rest_of (at value (read (spelt 39 c)))) (drop 7 (spelt 39 c)))
+  attribute_good_lem : ((name_good name && (user_good owner && value_good value)) && same_bytes (rest_of (at value (read (spelt 39 c)))) (drop 7 (spelt 39 c)))
       ≡ (attribute_good (2 ∷ spelt 39 c) && (value_good value && (eqb (value_kind value) kind && same_bytes (bytes4 (value_bits value)) four)))
   unfolding zeros
-  attribute_good =
+  attribute_good_lem =
       let m = spelt 39 c in
       let x = get_or m 7 0 in
       let y = get_or m 8 0 in
@@ -132,7 +132,7 @@ module _ (c : List ℕ) (bytes : Bytes (2 ∷ spelt 39 c)) where
           let b = value_good value && (eqb (value_kind value) kind && same_bytes (bytes4 (value_bits value)) four) in
           let h = four_small (get_or (spelt 39 c) 15 0) (get_or (spelt 39 c) 16 0) (get_or (spelt 39 c) 17 0) (get_or (spelt 39 c) 18 0) (bytes 16) (bytes 17) (bytes 18) (bytes 19) in
           let e = four_there (get_or (spelt 39 c) 15 0) (get_or (spelt 39 c) 16 0) (get_or (spelt 39 c) 17 0) (get_or (spelt 39 c) 18 0) (bytes 17) (bytes 18) (bytes 19) in
-          ap (λ (t : Bool). pick t (some (at value p)) none) attribute_good
+          ap (λ (t : Bool). pick t (some (at value p)) none) attribute_good_lem
           ∙ pick_both a b (some (at value p))
           ∙ ap (λ (o : Option Record). pick a o none) (valued (λ v. at v p) bits four h e kind)
 
