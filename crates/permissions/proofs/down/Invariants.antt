@@ -1,0 +1,32 @@
+-- `permissions::down` meets its contract: one pass in place: a row goes where its path goes, or is gone; then the slots that the rows left are blanked. Assumes nothing.
+use borrow.Author.Rules.{rules}
+use mathlib.Core.Path.{◌≡◌, ap, ◌∙◌}
+use mathlib.Core.List.{◌++◌}
+use Prim.Native.Nat.{◌≤◌, ◌-◌}
+use native.Mathlib.Omega.{arith}
+use lib.ListN.{take, drop, get_or, replicate}
+use Rattle.laws.proofs.Fill.{held_room, row_end}
+use Rattle.laws.proofs.Inplace.{Packs, packs, pack_each, pack_next, pack, pack_past, Clears, clears, clear, packed, held_length}
+use Rattle.path.specs.Address.{down}
+use Rattle.path.specs.View.{steps}
+use Rattle.model.specs.Moves.{carried}
+use Rattle.tables.specs.View.{view_permission, permission_of, view_permissions, permissions_of, permissions_with, blank_permission, no_permission}
+use Rattle.tables.proofs.Rows.{permissions_held, permission_path}
+use Rattle.moves.proofs.Stored.{moved_there, moved_gone, row_moves, row_goes}
+use Rattle.permissions.proofs.Stored.{permission_at_lem}
+use Rattle.permissions.proofs.down.Given as goal
+
+abbrev pub invariant-loop-i : goal.invariant-loop-i
+invariant-loop-i l =
+    (l.i ≤ l.n) × (l.k ≤ l.i) × (l.n ≤ 128)
+    × Packs permissions_with permission_of 128 blank_permission l.initial.out.rows (permissions_of (carried (down (steps l.q)) (view_permissions l.initial.out))) l.out.rows l.k l.i (carried (down (steps l.q)) (drop l.i (view_permissions l.initial.out)))
+
+abbrev pub decreases-loop-i : goal.decreases-loop-i
+decreases-loop-i l = l.n - l.i
+
+abbrev pub invariant-loop-k : goal.invariant-loop-k
+invariant-loop-k l =
+    (l.k ≤ l.n) × (l.n ≤ 128) × (l.out.count ≡ l.initial.out.count) × Clears permissions_with 128 blank_permission l.initial.out.rows (permissions_with (take l.initial.k l.initial.out.rows ++ replicate (128 - l.initial.k) blank_permission) l.initial.k) l.initial.k l.out.rows l.k l.n
+
+abbrev pub decreases-loop-k : goal.decreases-loop-k
+decreases-loop-k l = l.n - l.k

@@ -1,0 +1,34 @@
+-- `permissions::except` meets its contract: one pass in place: a row is kept or not; then the slots that the rows left are blanked. Assumes nothing.
+use borrow.Author.Rules.{rules}
+use mathlib.Core.Path.{◌≡◌, ap, ◌∙◌}
+use mathlib.Core.Bool.{true, false}
+use mathlib.Core.List.{◌++◌}
+use Prim.Native.Nat.{◌≤◌, ◌-◌}
+use native.Mathlib.Omega.{arith}
+use lib.ListN.{take, drop, get_or, replicate}
+use Rattle.laws.specs.Sorted.{move}
+use Rattle.laws.proofs.Fill.{held_room, row_end}
+use Rattle.laws.proofs.Inplace.{Packs, packs, pack_each, pack_next, pack, pack_past, Clears, clears, clear, packed, held_length}
+use Rattle.path.specs.View.{steps}
+use Rattle.model.specs.Moves.{keep, other_permission}
+use Rattle.tables.specs.View.{view_grant, view_permission, permission_of, view_permissions, permissions_of, permissions_with, blank_permission, no_permission}
+use Rattle.tables.proofs.Rows.{permissions_held, permission_same}
+use Rattle.moves.proofs.Kept.{so_not, row_kept, row_dropped}
+use Rattle.permissions.proofs.except.Given as goal
+
+abbrev pub invariant-loop-i : goal.invariant-loop-i
+invariant-loop-i l =
+    (l.i ≤ l.n) × (l.k ≤ l.i) × (l.n ≤ 128)
+    × Packs permissions_with permission_of 128 blank_permission l.initial.out.rows (permissions_of (move (keep (other_permission (steps l.p) l.name (view_grant l.g))) (view_permissions l.initial.out))) l.out.rows l.k l.i
+    (move (keep (other_permission (steps l.p) l.name (view_grant l.g))) (drop l.i (view_permissions l.initial.out)))
+
+abbrev pub decreases-loop-i : goal.decreases-loop-i
+decreases-loop-i l = l.n - l.i
+
+abbrev pub invariant-loop-k : goal.invariant-loop-k
+invariant-loop-k l =
+    (l.k ≤ l.n) × (l.n ≤ 128) × (l.out.count ≡ l.initial.out.count)
+    × Clears permissions_with 128 blank_permission l.initial.out.rows (permissions_with (take l.initial.k l.initial.out.rows ++ replicate (128 - l.initial.k) blank_permission) l.initial.k) l.initial.k l.out.rows l.k l.n
+
+abbrev pub decreases-loop-k : goal.decreases-loop-k
+decreases-loop-k l = l.n - l.k

@@ -1,0 +1,47 @@
+-- `permissions::up` meets its contract: one pass in place: a row goes where its path goes. Assumes nothing.
+use borrow.Author.Rules.{rules}
+use mathlib.Core.Path.{◌≡◌, refl, ap, sym, ◌∙◌}
+use mathlib.Core.Option.{some}
+use Prim.Native.Nat.{◌≤◌, ◌-◌}
+use native.Mathlib.Omega.{arith}
+use lib.ListN.{drop, get_or}
+use Rattle.laws.proofs.Fill.{held_room, row_end}
+use Rattle.laws.proofs.Inplace.{Packs, packs, pack_each, pack_next, pack, clears, packed, held_length}
+use Rattle.path.specs.Address.{up}
+use Rattle.path.specs.View.{steps}
+use Rattle.tables.specs.View.{view_permission, permission_of, view_permissions, permissions_of, permissions_with, blank_permission, no_permission}
+use Rattle.tables.proofs.Rows.{permissions_held, permission_path}
+use Rattle.moves.specs.Moved.{raised}
+use Rattle.moves.proofs.Stored.{row_moves}
+use Rattle.permissions.proofs.Stored.{permission_at_lem}
+use Rattle.permissions.proofs.up.Goals as goal
+
+pub loop-i-init : goal.loop-i-init
+unfolding permissions_of
+loop-i-init c =
+    let h = permissions_held c.args.t c.requires.0 in
+    (search rules, held_room _ _ _ _ _ _ h, search rules, packs permissions_with permission_of 128 blank_permission _ _ (held_length h))
+
+pub path_up-p-requires : goal.path_up-p-requires
+path_up-p-requires c =
+    (permission_path (pack_each c.loop-i.invariant.3 (permissions_held c.args.t c.requires.0) no_permission c.loop-i-test.true), c.requires.1)
+
+pub loop-i-preserved : goal.loop-i-preserved
+loop-i-preserved c =
+    let l = c.loop-i in
+    let x = get_or l.out.rows l.i no_permission in
+    let q = steps c.args.q in
+    let next = pack_next l.invariant.3 (permissions_held c.args.t c.requires.0) no_permission c.loop-i-test.true view_permission in (
+      search rules,
+      search rules,
+      search rules,
+      pack l.invariant.3 _ _ _ (omega arith) (omega arith) (row_moves (λ p. some (up q p)) (view_permission x) next refl) (c.placed-b.ensures ∙ permission_at_lem x (up q (steps x.path)) c.path_up-p.ensures),
+    )
+
+pub returns : goal.returns
+returns c =
+    let l = c.loop-i in
+    let e : l.i ≡ c.args.t.count = omega arith in
+    ap (permissions_with l.out.rows) (l.invariant.2 ∙ sym e)
+    ∙ packed (permissions_held c.args.t c.requires.0) l.invariant.3 (ap (raised (steps c.args.q)) (row_end view_permission c.args.t.rows c.args.t.count l.i c.loop-i-test.false)) l.invariant.0
+    (clears permissions_with 128 blank_permission _ _ _ l.invariant.3.full) e
