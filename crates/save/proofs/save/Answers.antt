@@ -49,4 +49,4 @@ returns c =
     let c2 = c.put_attributes in
     let c3 = c.put_permissions in
     let room : 40 * d.nodes.count + 40 * d.attributes.count + 40 * d.permissions.count ≤ length l = omega (arith, c.if-out-need.false) in
-    all_written (images.save (view_dossier d)) l (sym n.bytes) room (saved d c.requires l c1.new.out.0 c2.new.out.0 c3.new.out.0 room c1.ensures c2.ensures c3.ensures)
+    all_written (images.save (view_dossier d)) l (sym n.bytes) room (saved d c.requires l c1.new.out c2.new.out c3.new.out room c1.ensures c2.ensures c3.ensures)

@@ -2,13 +2,9 @@
 use Rattle.laws.proofs.Fill.{is_same}
 use Rattle.tables.specs.View.{view_dossier, dossier_of, TablesFit}
 use Rattle.tables.proofs.Rows.{view_dossier_lem}
-use Rattle.edits.proofs.branch_clipboard.Statement.{statement}
-use Rattle.edits.proofs.branch_clipboard.Tie as tie
+use Rattle.edits.proofs.branch_clipboard.Goals as goal
 
-returns : tie.Need-returns
+pub returns : goal.returns
 returns c =
     let e = is_same dossier_of view_dossier view_dossier_lem TablesFit c.args.d c.requires in
     λ i. record { kind = 1; held = e i }
-
-pub branch_clipboard_spec : {M : Type 1} → statement M
-branch_clipboard_spec = tie.close (tie.spec returns)

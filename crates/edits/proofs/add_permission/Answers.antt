@@ -6,11 +6,10 @@ use Rattle.model.specs.Moves.{grant_row}
 use Rattle.tables.specs.View.{view_grant}
 use Rattle.tables.proofs.Parts.{dossier_fits, nodes_sound, attributes_sound, permissions_sound}
 use Rattle.tables.proofs.Tables.{nodes_same, attributes_same, permissions_count}
-use Rattle.edits.proofs.add_permission.Statement.{statement}
-use Rattle.edits.proofs.add_permission.Tie as tie
+use Rattle.edits.proofs.add_permission.Goals as goal
 
-insert-requires : tie.Need-insert-requires
-insert-requires c κs =
+pub insert-t-requires : goal.insert-t-requires
+insert-t-requires c =
     let t = permissions_sound (dossier_fits c.requires.0) in
     let e = permissions_count _ t in
     let room = c.requires.2 in
@@ -25,10 +24,7 @@ insert-requires c κs =
       c.requires.3,
     )
 
-returns : tie.Need-returns
+pub returns : goal.returns
 returns c =
-    let h = dossier_fits c.before.requires.0 in
-    λ i. record { nodes = nodes_same _ (nodes_sound h) i; attributes = attributes_same _ (attributes_sound h) i; permissions = c.insert.ensures i }
-
-pub add_permission_spec : {M : Type 1} → statement M
-add_permission_spec = tie.close (tie.spec insert-requires returns)
+    let h = dossier_fits c.requires.0 in
+    λ i. record { nodes = nodes_same _ (nodes_sound h) i; attributes = attributes_same _ (attributes_sound h) i; permissions = c.insert-t.ensures i }
