@@ -16,6 +16,17 @@ use Rattle.tables.proofs.Tables.{nodes_one, nodes_count}
 use Rattle.moves.specs.Moved.{raised, below}
 use Rattle.edits.proofs.add_node.Goals as goal
 
+pub paste-requires : goal.paste-requires
+paste-requires c =
+    let one = nodes_one c.args.owner c.one-n.ensures in
+    let a = nodes_count c.one-n.result one.0 in
+    let t = nodes_sound (dossier_fits c.requires.0) in
+    let b = nodes_count _ t in
+    let e = ap length one.1 in
+    let room = c.requires.3 in
+    let n = valid_short (steps c.args.q) (path_valid c.requires.1) in
+    let short : length (steps c.args.q) + 0 ≤ 6 = omega arith in record { nodes_sound = (one.0, t, c.requires.1, c.requires.2); count_bound = (omega arith, λ r m. subst (λ (z : Address). length (steps c.args.q) + length z ≤ 6) (sym (ap (λ x. x.0) (Memᴰ.eq_of_singleton (subst (λ l. r ∈ l) one.1 m)))) short) }
+
 pub up-requires : goal.up-requires
 up-requires c =
     (attributes_sound (dossier_fits c.requires.0), c.requires.1)

@@ -23,6 +23,19 @@ paste_one-t-requires c =
     let room = c.requires.4.attribute in
     (t, c.requires.3, omega arith, c.requires.4.fresh)
 
+pub paste_under-g-requires : goal.paste_under-g-requires
+paste_under-g-requires c =
+    let w = holds_single c.requires.0 c.requires.1 in
+    let h = ap (λ (x : Clipboard). x.held.permissions) w.same in
+    let sound = cached_sound w.fits h in
+    let k = permissions_count c.args.c.held.permissions sound in
+    let t = permissions_sound (dossier_fits c.requires.2) in
+    let l = permissions_count _ t in
+    let room = c.requires.4.permissions in record { permissions_sound = (sound, t, c.requires.3, omega arith); one_object = (
+        cached_one w.attribute.name w.permissions (cached_seen w.attribute.name w.permissions h),
+        no_object (steps c.args.p) c.args.name (view_dossier c.args.d) (whole c.args.d c.requires.2) c.requires.4.named c.requires.4.fresh,
+      ) }
+
 pub returns : goal.returns
 returns c =
     let w = holds_single c.requires.0 c.requires.1 in
