@@ -23,8 +23,12 @@ use Rattle.twin.proofs.KeepTree.{branch_height}
 
 module _ {X : Type 0} where
   deepest_in : (l : List (Row X)) (r : Row X) → r ∈ l → length r.0 ≤ deepest l
-  deepest_in l r (Memᴰ.head {x} {xs} e) = let d : length r.0 ≡ length x.0 = ap (λ (y : Row X). length y.0) e in omega arith
-  deepest_in l r (Memᴰ.tail {x} {xs} h) = let d : length r.0 ≤ deepest xs = deepest_in xs r h in omega arith
+  deepest_in [] r h = absurd (Memᴰ.not-nil h)
+  deepest_in (x ∷ l) r h = go (deepest_in l r) (Memᴰ.cases_cons h)
+    where
+      go : (r ∈ l → length r.0 ≤ deepest l) → (r ≡ x) ⊎ (r ∈ l) → length r.0 ≤ deepest (x ∷ l)
+      go f (inl e) = let d : length r.0 ≡ length x.0 = ap (λ (y : Row X). length y.0) e in omega arith
+      go f (inr k) = let d : length r.0 ≤ deepest l = f k in omega arith
 
   deepest_le : (l : List (Row X)) (n : ℕ) → ((r : Row X) → r ∈ l → length r.0 ≤ n) → deepest l ≤ n
   deepest_le [] n h = omega arith

@@ -25,7 +25,7 @@ use Rattle.model.specs.Sound.{Sound, SoundSingle, SoundClipboard, SoundState}
 use Rattle.roundtrip.proofs.Checks.{or_left, or_right}
 use Rattle.roundtrip.proofs.Orders.{permission_order, attribute_order, lt_named, named_order}
 use Rattle.twin.specs.Tree.{Tree, then, payload, kids, count, kid, look, height}
-use Rattle.twin.specs.Twin.{Holding, Node, Clip, empty, branched, single, Session, in_order, plain, node_object, holding_object, holding, node_at, attribute_object, object_at, names_of, node_items, attribute_items, permission_items}
+use Rattle.twin.specs.Twin.{Holding, Node, Clip, empty, branched, single, Session, in_order, plain, node_object, holding_object, holding, node_at, attribute_object, names_of, node_items, attribute_items, permission_items}
 use Rattle.twin.specs.Good.{dossier_of, clipboard_of, state_of, Each, GoodHolding, GoodNode, GoodTop, GoodTree, GoodSingle, GoodClip, GoodSession}
 use Rattle.twin.proofs.Trees.{then_some, child_below, count_child}
 use Rattle.twin.proofs.Rows.{table_sorted, table_back}

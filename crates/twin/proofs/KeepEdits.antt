@@ -15,7 +15,7 @@ use Rattle.model.specs.Things.{Value, Permission}
 use Rattle.model.specs.Decide.{Object, clash_any}
 use Rattle.model.specs.Moves.{same_permission}
 use Rattle.model.specs.Refusals.{user_good, value_good, permission_good, permissions_of}
-use Rattle.twin.specs.Tree.{Tree, node, then, payload, kids, count, branch, look, put, drop, paste_tree, delete_tree, set_at, height, weigh}
+use Rattle.twin.specs.Tree.{Tree, then, payload, kids, count, branch, look, put, drop, paste_tree, delete_tree, set_at, height, weigh}
 use Rattle.twin.specs.Twin.{Holding, Node, Session, leaf, plain, node_object, holding_object, holding, holding_at, node_at, attribute_object, object_at, names_of, node_items, attribute_items, permission_items, with_holding, without_holding, on_holding, with_value, with_permission, without_permission, dossier}
 use Rattle.twin.specs.Good.{GoodHolding, GoodNode, GoodTop, GoodTree, GoodSingle, GoodSession}
 use Rattle.twin.proofs.Trees.{then_some, branch_look, look_branch}

@@ -1,5 +1,6 @@
 -- What is done to a good node leaves a good node, with at most so many attributes and permissions more. Assumes nothing.
 use mathlib.Core.Path.{◌≡◌, refl, sym, ap, ap₂, subst, ◌∙◌}
+use mathlib.Core.Logic.{◌⊎◌, inl, inr}
 use mathlib.Core.Bool.{Bool, true, false, not}
 use mathlib.Core.Option.{Option, none, some, some-injective, none-ne-some}
 use mathlib.Core.List.Memᴰ
@@ -38,10 +39,14 @@ module _ {A : Type 0} (test : A → Bool) where
 
 -- ---- permissions that do not clash
 pub one_clashes : (l : List Permission) → NoClash l → (g h : Permission) → g ∈ l → h ∈ l → T (clash g h) → g ≡ h
-one_clashes l n g h (Memᴰ.head e) (Memᴰ.head d) t = e ∙ sym d
-one_clashes l n g h (Memᴰ.head {x} {xs} e) (Memᴰ.tail m) t = absurd (n.0 (clash_in x h xs m (subst (λ (y : Permission). T (clash y h)) e t)))
-one_clashes l n g h (Memᴰ.tail {x} {xs} m) (Memᴰ.head d) t = absurd (n.0 (clash_in x g xs m (subst (λ (y : Permission). T (clash y g)) d (clash_sym g h t))))
-one_clashes l n g h (Memᴰ.tail {x} {xs} m) (Memᴰ.tail k) t = one_clashes xs n.1 g h m k t
+one_clashes [] n g h m k t = absurd (Memᴰ.not-nil m)
+one_clashes (x ∷ l) n g h m k t = go (λ a b. one_clashes l n.1 g h a b t) (Memᴰ.cases_cons m) (Memᴰ.cases_cons k)
+  where
+    go : (g ∈ l → h ∈ l → g ≡ h) → (g ≡ x) ⊎ (g ∈ l) → (h ≡ x) ⊎ (h ∈ l) → g ≡ h
+    go f (inl e) (inl d) = e ∙ sym d
+    go f (inl e) (inr b) = absurd (n.0 (clash_in x h l b (subst (λ (y : Permission). T (clash y h)) e t)))
+    go f (inr a) (inl d) = absurd (n.0 (clash_in x g l a (subst (λ (y : Permission). T (clash y g)) d (clash_sym g h t))))
+    go f (inr a) (inr b) = f a b
 
 -- order does not matter
 in_order_lem : (g : Permission) (l : List Permission) → (T (clash_any g (in_order l)) → ⊥) → T (clash_any g l) → ⊥
@@ -99,10 +104,14 @@ holding_in name n a e =
 
 -- and it is the only one of that name
 pub one_called : (l : List Holding) → Distinct (names l) → (a b : Holding) → a ∈ l → b ∈ l → a.name ≡ b.name → a ≡ b
-one_called l d a b (Memᴰ.head e) (Memᴰ.head c) n = e ∙ sym c
-one_called l d a b (Memᴰ.head e) (Memᴰ.tail k) n = absurd (d.0 (Memᴰ.cast (sym (ap (λ (x : Holding). x.name) e) ∙ n) (Memᴰ.map (λ x. x.name) k)))
-one_called l d a b (Memᴰ.tail h) (Memᴰ.head c) n = absurd (d.0 (Memᴰ.cast (sym (ap (λ (x : Holding). x.name) c) ∙ sym n) (Memᴰ.map (λ x. x.name) h)))
-one_called l d a b (Memᴰ.tail {xs} h) (Memᴰ.tail k) n = one_called xs d.1 a b h k n
+one_called [] d a b h k n = absurd (Memᴰ.not-nil h)
+one_called (x ∷ l) d a b h k n = go (λ i j. one_called l d.1 a b i j n) (Memᴰ.cases_cons h) (Memᴰ.cases_cons k)
+  where
+    go : (a ∈ l → b ∈ l → a ≡ b) → (a ≡ x) ⊎ (a ∈ l) → (b ≡ x) ⊎ (b ∈ l) → a ≡ b
+    go f (inl e) (inl c) = e ∙ sym c
+    go f (inl e) (inr j) = absurd (d.0 (Memᴰ.cast (sym (ap (λ (y : Holding). y.name) e) ∙ n) (Memᴰ.map (λ y. y.name) j)))
+    go f (inr i) (inl c) = absurd (d.0 (Memᴰ.cast (sym (ap (λ (y : Holding). y.name) c) ∙ sym n) (Memᴰ.map (λ y. y.name) i)))
+    go f (inr i) (inr j) = f i j
 
 pub head_one : {A : Type 0} (l : List A) (x : A) → x ∈ l → ((y : A) → y ∈ l → y ≡ x) → head l ≡ some x
 head_one [] x h f = absurd (Memᴰ.not-nil h)
@@ -147,9 +156,12 @@ kept_items test (x ∷ l) = go (test x) (kept_items test l)
     go false h = omega (arith, holding_length x l)
 
 pub one_of_items : (l : List Holding) (a : Holding) → a ∈ l → length a.permissions ≤ length (holding_items l)
-one_of_items l a (Memᴰ.head {x} {xs} e) =
-    let d : length a.permissions ≡ length x.permissions = ap (λ (z : Holding). length z.permissions) e in omega (arith, holding_length x xs)
-one_of_items l a (Memᴰ.tail {x} {xs} m) = let d : length a.permissions ≤ length (holding_items xs) = one_of_items xs a m in omega (arith, holding_length x xs)
+one_of_items [] a h = absurd (Memᴰ.not-nil h)
+one_of_items (x ∷ l) a h = go (one_of_items l a) (Memᴰ.cases_cons h)
+  where
+    go : (a ∈ l → length a.permissions ≤ length (holding_items l)) → (a ≡ x) ⊎ (a ∈ l) → length a.permissions ≤ length (holding_items (x ∷ l))
+    go f (inl e) = let d : length a.permissions ≡ length x.permissions = ap (λ (z : Holding). length z.permissions) e in omega (arith, holding_length x l)
+    go f (inr m) = let d : length a.permissions ≤ length (holding_items l) = f m in omega (arith, holding_length x l)
 
 -- ---- one attribute changed
 module _ (name : ℕ) (f : Holding → Holding) where

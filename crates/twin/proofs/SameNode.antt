@@ -40,10 +40,14 @@ abbrev pub Of : List Holding → ℕ × Permission → Type 0
 Of l x = (a : Holding) × (a ∈ l) × (a.name ≡ x.0) × (x.1 ∈ a.permissions)
 
 of_in : (l : List Holding) (a : Holding) (g : Permission) → a ∈ l → g ∈ a.permissions → named a.name g ∈ holding_items l
-of_in l a g (Memᴰ.head {x} {xs} e) m =
-    Memᴰ.append_left (holding_items xs)
-    (subst (λ (y : Holding). named y.name g ∈ map (named x.name) x.permissions) (sym e) (Memᴰ.map (named x.name) (subst (λ (y : Holding). g ∈ y.permissions) e m)))
-of_in l a g (Memᴰ.tail {x} {xs} h) m = Memᴰ.append_right (map (named x.name) x.permissions) (of_in xs a g h m)
+of_in [] a g h m = absurd (Memᴰ.not-nil h)
+of_in (x ∷ l) a g h m = go (λ k. of_in l a g k m) (Memᴰ.cases_cons h)
+  where
+    go : (a ∈ l → named a.name g ∈ holding_items l) → (a ≡ x) ⊎ (a ∈ l) → named a.name g ∈ holding_items (x ∷ l)
+    go f (inl e) =
+        Memᴰ.append_left (holding_items l)
+        (subst (λ (y : Holding). named y.name g ∈ map (named x.name) x.permissions) (sym e) (Memᴰ.map (named x.name) (subst (λ (y : Holding). g ∈ y.permissions) e m)))
+    go f (inr k) = Memᴰ.append_right (map (named x.name) x.permissions) (f k)
 
 of_back : (l : List Holding) (x : ℕ × Permission) → x ∈ holding_items l → Of l x
 of_back [] x h = absurd (Memᴰ.not-nil h)
