@@ -21,6 +21,7 @@ use Rattle.path.proofs.Moves.{Test, holds, fails, test, is_true}
 use Rattle.image.specs.Columns.{any_of, Rises, beside, before_pair}
 
 any_there : {A : Type 0} (is : A → Bool) (l : List A) (x : A) → x ∈ l → is x ≡ true → any_of is l ≡ true
+any_there is [] x m h = elim m [ ]
 any_there is (y ∷ l) x (Memᴰ.head e) h = rw (ap is (sym e) ∙ h)
 any_there is (y ∷ l) x (Memᴰ.tail m) h = cases (is y) (λ e. rw e) (λ e. rw e (any_there is l x m h))
 

@@ -71,12 +71,14 @@ rises {A} {K} {N} {lt} {lt_k} {key} o lt_n num P f (x ∷ l) a (cons h s) = cons
         back (inr e) = o.order.irr (key x) (subst (λ k. T (lt_k k (key x))) (sym e) u)
 
     go : (n : N) (l : List A) → All P l → ((y : A) → y ∈ l → T (lt x y)) → n ∈ map num l → T (not (lt_n n (num x)))
+    go n [] b g m = elim m [ ]
     go n (y ∷ l) b g (Memᴰ.head e) =
         not_T (lt_n n (num x)) (λ u. falls y (g y (Memᴰ.head refl)) (subst T (f y x b.0 a.0) (subst (λ z. T (lt_n z (num x))) e u)))
     go n (y ∷ l) b g (Memᴰ.tail m) = go n l b.1 (λ z w. g z (Memᴰ.tail w)) m
 
 -- where no row comes after p, no number is above p's
 pub keys_none : {P : Type 0} (p : Address) → T (valid p) → (l : List (Row P)) → All AtPath l → NoneAfter p l → NoneAbove (number p) (keys_of l)
+keys_none p h [] a n x m t = elim m [ ]
 keys_none p h (r ∷ l) a n x (Memᴰ.head e) t =
     n r (Memᴰ.head refl) (subst T (number_before p r.0 h a.0) (lt→ltb (number p) (number r.0) (subst (λ z. number p < z) e t)))
 keys_none p h (r ∷ l) a n x (Memᴰ.tail m) t = keys_none p h l a.1 (λ y w. n y (Memᴰ.tail w)) x m t

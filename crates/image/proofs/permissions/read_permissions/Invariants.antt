@@ -18,15 +18,15 @@ use Rattle.image.proofs.Clashes.{clash_from, walk_begins, walk_on, walk_ends}
 use Rattle.image.proofs.Phases.{third, permissions_begin, permission_answer, permission_path_sound, permission_none_after, permission_breaks, permission_room, permissions_more}
 use Rattle.image.proofs.permissions.read_permissions.Given as goal
 
-abbrev pub invariant-loop-k : goal.invariant-loop-k
-invariant-loop-k l =
-    (j ≤ l.initial.t.count) × (l.initial.t.count ≤ 128) × (l.t.kind ≡ 3 → clashing ≡ clash_from l.initial.t (steps l.t.path) l.t.name (view_grant l.t.grant) j)
-
-abbrev pub decreases-loop-k : goal.decreases-loop-k
-decreases-loop-k l = j
-
 abbrev pub invariant-loop-j : goal.invariant-loop-j
-invariant-loop-j l = PermissionsUpto l.image l.n l.c l.nodes l.attributes l.r
+invariant-loop-j l =
+    (l.j ≤ l.t.count) × (l.t.count ≤ 128) × (l.r.kind ≡ 3 → l.clashing ≡ clash_from l.t (steps l.r.path) l.r.name (view_grant l.r.grant) l.j)
 
 abbrev pub decreases-loop-j : goal.decreases-loop-j
-decreases-loop-j l = l.n - l.c
+decreases-loop-j l = l.j
+
+abbrev pub invariant-loop-k : goal.invariant-loop-k
+invariant-loop-k l = PermissionsUpto l.image l.n l.k l.nodes l.attributes l.t
+
+abbrev pub decreases-loop-k : goal.decreases-loop-k
+decreases-loop-k l = l.n - l.k
