@@ -1,0 +1,28 @@
+-- `ask::decided_on` meets its contract: 3 for what is not there, 6 for what is not granted, else the provisions. Assumes nothing.
+use borrow.Author.Rules.{rules}
+use mathlib.Core.Path.{sym, ap, ◌∙◌}
+use Rattle.path.specs.View.{steps, asked}
+use Rattle.path.proofs.Structs.{view_path, valid_sound}
+use Rattle.tables.specs.View.{view_dossier}
+use Rattle.ask.specs.Verdict.{view_question}
+use Rattle.ask.proofs.Verdicts.{of_decision, absent_there, decided_on_it}
+use Rattle.ask.proofs.decided_on.Goals as goal
+
+pub returns-then-absent : goal.returns-then-absent
+returns-then-absent c =
+    let a = c.args in
+    absent_there (view_question a.q) (view_dossier a.d) (ap steps c.path_of-p.ensures ∙ view_path (asked a.q.path)) c.absent.ensures c.if-absent.true
+
+pub returns-in-Denied : goal.returns-in-Denied
+returns-in-Denied c =
+    let a = c.args in
+    ap of_decision (sym c.in-Denied.is)
+    ∙ decided_on_it (view_question a.q) (view_dossier a.d) (ap steps c.path_of-p.ensures ∙ view_path (asked a.q.path)) c.absent.ensures
+    c.if-absent.false c.may.ensures
+
+pub returns-in-Granted : goal.returns-in-Granted
+returns-in-Granted c =
+    let a = c.args in
+    ap of_decision (sym c.in-Granted.is)
+    ∙ decided_on_it (view_question a.q) (view_dossier a.d) (ap steps c.path_of-p.ensures ∙ view_path (asked a.q.path)) c.absent.ensures
+    c.if-absent.false c.may.ensures

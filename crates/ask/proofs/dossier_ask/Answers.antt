@@ -1,0 +1,29 @@
+-- `ask::dossier_ask` meets its contract: the verdict's number, and its two sets where there is room. Assumes nothing.
+use borrow.Author.Rules.{rules}
+use lib.IntN.{ℤ}
+use mir.Syntax.{w64}
+use mir.ValLaws.{to_z-of_z}
+use Rattle.model.specs.Run.{Question}
+use Rattle.ask.specs.Asked.{question_of}
+use Rattle.ask.proofs.Answers.{answer_refused, answer_short, answer_written}
+use Rattle.ask.proofs.dossier_ask.Goals as goal
+
+pub returns-then-out-lt8 : goal.returns-then-out-lt8
+returns-then-out-lt8 c =
+    let a = c.args in
+    let q : ℤ → Question = λ t. question_of a.role a.user t a.len a.s1 a.s2 a.s3 a.s4 a.s5 a.s6 a.name a.action in
+    answer_short a.image.now a.out.now q (to_z-of_z w64 a.time c.ranges.time) c.decided.ensures c.in-Granted.is
+    c.if-out-lt8.true
+
+pub returns-in-Refused : goal.returns-in-Refused
+returns-in-Refused c =
+    let a = c.args in
+    let q : ℤ → Question = λ t. question_of a.role a.user t a.len a.s1 a.s2 a.s3 a.s4 a.s5 a.s6 a.name a.action in
+    answer_refused a.image.now a.out.now q (to_z-of_z w64 a.time c.ranges.time) c.decided.ensures c.in-Refused.is
+
+pub returns-else-out-lt8 : goal.returns-else-out-lt8
+returns-else-out-lt8 c =
+    let a = c.args in
+    let q : ℤ → Question = λ t. question_of a.role a.user t a.len a.s1 a.s2 a.s3 a.s4 a.s5 a.s6 a.name a.action in
+    answer_written a.image.now a.out.now q (to_z-of_z w64 a.time c.ranges.time) c.decided.ensures c.in-Granted.is
+    c.if-out-lt8.false c.put4.ensures c.put4-in-Granted.ensures

@@ -1,0 +1,18 @@
+-- `branch::own_nodes` meets its contract: one pass in place: every row keeps its path and is the owner's. Assumes nothing.
+use borrow.Author.Rules.{rules}
+use mathlib.Core.Path.{◌≡◌, refl, ap, sym, ◌∙◌}
+use Prim.Native.Nat.{◌≤◌, ◌-◌}
+use native.Mathlib.Omega.{arith}
+use Rattle.laws.proofs.Fill.{held_room}
+use Rattle.model.specs.Image.{owned_node}
+use Rattle.tables.specs.View.{view_node, node_of, nodes_of, nodes_with, blank_node, no_node}
+use Rattle.tables.proofs.Rows.{nodes_held, view_node_lem}
+use Rattle.branch.proofs.Changes.{Changes, changes, change, changed}
+use Rattle.branch.proofs.own_nodes.Given as goal
+
+abbrev pub invariant-loop-i : goal.invariant-loop-i
+invariant-loop-i l =
+    (l.i ≤ l.n) × (l.n ≤ 64) × (l.out.count ≡ l.n) × Changes nodes_with node_of 64 blank_node view_node (owned_node l.owner) l.initial.out.rows l.initial.out.count l.out.rows l.i
+
+abbrev pub decreases-loop-i : goal.decreases-loop-i
+decreases-loop-i l = l.n - l.i
