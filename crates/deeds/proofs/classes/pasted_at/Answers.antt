@@ -20,7 +20,7 @@ abbrev leaves : Start → Request → Dossier
 leaves s r = dossier_of (run.edited r (view_dossier s.args.d) (view_clipboard s.args.c))
 
 -- what is asked of a request, of the request with its path taken
-record Pastes (s : tie.Start) (r : Request) : Type 0 where
+record Pastes (s : Start) (r : Request) : Type 0 where
   pub allowed : Allowed r (view_dossier s.args.d) (view_clipboard s.args.c)
   pub class : class_of r.number ≡ 5
   pub branch : r.number ≡ 17 → T (run.cached (view_clipboard s.args.c)).branch
