@@ -1,4 +1,4 @@
-pub mod SessionParts
+pub mod Tests
 pub mod Frame
 pub mod Refused
 pub mod Trips
@@ -6,8 +6,6 @@ pub mod Runs
 pub mod Determined
 pub mod Granted
 pub mod Demands
-pub mod RequestParts
-pub mod Ways
 pub mod Stored
 pub mod Deeds
 pub mod Acts

@@ -77,7 +77,8 @@ pub fn sign(s: &mut Session, user: u8, agreement: u8) -> Answer
     ensures { Steps s.old (run.sign user agreement) result s.new }
 {
     let out = state::signatures::signed(s.signatures, user, agreement);
-    s.signatures = out.signatures;
+    let rows = out.signatures;
+    s.signatures = rows;
     out.answer
 }
 

@@ -1,0 +1,30 @@
+-- `session::parts::change_attributes` meets its contract: the dossier with its attributes stored is the dossier that the request leaves. Assumes nothing.
+use mathlib.Core.Path.{◌≡◌, sym, ap, ap₂, subst, ◌∙◌}
+use Rattle.model.specs.Things as things
+use Rattle.model.specs.Run as run
+use Rattle.tables.specs.declared.Dossier.{Dossier}
+use Rattle.tables.specs.View.{view_dossier, dossier_of}
+use Rattle.state.specs.declared.Session.{Session}
+use Rattle.state.specs.View.{view_request}
+use Rattle.state.specs.Parts.{numbered_in, replaced_in}
+use Rattle.deeds.specs.declared.classes.AttributesOut.{AttributesOut}
+use Rattle.deeds.proofs.Parts.{attributes_only}
+use Rattle.session.specs.Requests.{with_attributes}
+use Rattle.session.proofs.parts.change_attributes.Goals as goal
+
+pub attributes_at-o-requires : goal.attributes_at-o-requires
+attributes_at-o-requires c = let ok = c.requires in rw c.dossier_in-d.ensures.0 (ok.0.sound, ok.0.valid, ok.0.free, sym ok.0.class ∙ ok.1)
+
+pub returns : goal.returns
+returns c =
+    let ok = c.requires in
+    let v = c.args.v in
+    let s = c.args.s.now in
+    let o = c.attributes_at-o.ensures
+        ∙ ap (λ (d : Dossier). record { dossier = v.dossier; attributes = (dossier_of (run.edited (view_request v.request) (view_dossier d) things.empty)).attributes }) c.dossier_in-d.ensures.0 in
+    let p = c.put_attributes.ensures in (
+      p.0,
+      p.1
+      ∙ ap₂ (λ (x : AttributesOut) (t : Session). replaced_in x.dossier (with_attributes (numbered_in x.dossier t) x.attributes) t) o c.dossier_in-d.ensures.1
+      ∙ ap (λ (d : Dossier). replaced_in v.dossier d s) (sym (attributes_only (view_request v.request) ok.0.sound things.empty (sym ok.0.class ∙ ok.1))),
+    )
