@@ -120,8 +120,7 @@ fn decided(image: &[u8], q: Question) -> Verdict
 // ---- 9, and the answer
 
 // The first eight bytes of out get messages, then agreements; on a refusal nothing is written.
-#[unsafe(no_mangle)]
-pub extern "C" fn dossier_ask(
+pub fn dossier_ask(
     image: &[u8],
     role: u8,
     user: u8,

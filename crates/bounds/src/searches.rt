@@ -9,95 +9,95 @@ use lookups::{attribute_in, count_on, holds_in, names_in, owner_in};
 use path::Path;
 use tables::{Attributes, Found, Grant, Names, Nodes, Owner, Permissions, Span};
 
-pub fn lookups(n: Nodes, a: Attributes, q: Permissions)
+pub fn lookups(rt: &impl Print, n: Nodes, a: Attributes, q: Permissions)
     requires { NodesSound n × AttributesSound a × PermissionsSound q }
 {
-    text(b"4. lookups\n");
-    nodes(n);
-    names(a, top());
-    names(a, place(16));
-    attributes(a);
-    permissions(q);
-    other_permissions(q);
+    text(rt, b"4. lookups\n");
+    nodes(rt, n);
+    names(rt, a, top());
+    names(rt, a, place(16));
+    attributes(rt, a);
+    permissions(rt, q);
+    other_permissions(rt, q);
 }
 
 // ---- nodes
 
-fn nodes(t: Nodes)
+fn nodes(rt: &impl Print, t: Nodes)
     requires { NodesSound t }
 {
-    node(t, top());
-    node(t, at(6, [1, 1, 1, 1, 1, 1]));
-    node(t, at(2, [2, 26, 0, 0, 0, 0]));
-    node(t, at(2, [2, 27, 0, 0, 0, 0]));
-    node(t, at(2, [3, 1, 0, 0, 0, 0]));
+    node(rt, t, top());
+    node(rt, t, at(6, [1, 1, 1, 1, 1, 1]));
+    node(rt, t, at(2, [2, 26, 0, 0, 0, 0]));
+    node(rt, t, at(2, [2, 27, 0, 0, 0, 0]));
+    node(rt, t, at(2, [3, 1, 0, 0, 0, 0]));
 }
 
-fn node(t: Nodes, p: Path)
+fn node(rt: &impl Print, t: Nodes, p: Path)
     requires { NodesSound t × PathSound p }
 {
-    text(b"node ");
-    show::address(p);
+    text(rt, b"node ");
+    show::address(rt, p);
     match owner_in(t, p) {
-        Owner::Nobody => text(b" absent\n"),
-        Owner::User(u) => show::line(b" owner ", u as usize),
+        Owner::Nobody => text(rt, b" absent\n"),
+        Owner::User(u) => show::line(rt, b" owner ", u as usize),
     }
 }
 
 // ---- attributes
 
 // The names on a node that has at most 16.
-fn names(t: Attributes, p: Path)
+fn names(rt: &impl Print, t: Attributes, p: Path)
     requires { AttributesSound t × PathSound p }
 {
-    text(b"names on ");
-    show::address(p);
-    text(b":");
+    text(rt, b"names on ");
+    show::address(rt, p);
+    text(rt, b":");
     if 16 < count_on(t, p) {
         return;
     }
-    listed(names_in(t, p));
-    text(b"\n");
+    listed(rt, names_in(t, p));
+    text(rt, b"\n");
 }
 
-fn listed(l: Names) {
+fn listed(rt: &impl Print, l: Names) {
     let n = l.count;
     let mut i: usize = 0;
     while i < 16 {
         if n <= i {
             return;
         }
-        text(b" ");
-        show::number(l.names[i] as u64);
+        text(rt, b" ");
+        show::number(rt, l.names[i] as u64);
         i += 1;
     }
 }
 
-fn attributes(t: Attributes)
+fn attributes(rt: &impl Print, t: Attributes)
     requires { AttributesSound t }
 {
-    attribute(t, top(), 84);
-    attribute(t, top(), 99);
-    attribute(t, top(), 101);
-    attribute(t, place(15), 85);
-    attribute(t, place(16), 85);
+    attribute(rt, t, top(), 84);
+    attribute(rt, t, top(), 99);
+    attribute(rt, t, top(), 101);
+    attribute(rt, t, place(15), 85);
+    attribute(rt, t, place(16), 85);
 }
 
-fn attribute(t: Attributes, p: Path, name: u16)
+fn attribute(rt: &impl Print, t: Attributes, p: Path, name: u16)
     requires { AttributesSound t × PathSound p }
 {
-    text(b"attribute ");
-    show::address(p);
-    text(b" ");
-    show::number(name as u64);
+    text(rt, b"attribute ");
+    show::address(rt, p);
+    text(rt, b" ");
+    show::number(rt, name as u64);
     match attribute_in(t, p, name) {
-        Found::Absent => text(b" absent\n"),
+        Found::Absent => text(rt, b" absent\n"),
         Found::Present(u, v) => {
-            text(b" owner ");
-            show::number(u as u64);
-            text(b" ");
-            show::value(v);
-            text(b"\n");
+            text(rt, b" owner ");
+            show::number(rt, u as u64);
+            text(rt, b" ");
+            show::value(rt, v);
+            text(rt, b"\n");
         }
     }
 }
@@ -105,13 +105,14 @@ fn attribute(t: Attributes, p: Path, name: u16)
 // ---- permissions
 
 // The read permission of role 2 on the root, one with another agreement, another end.
-fn permissions(t: Permissions)
+fn permissions(rt: &impl Print, t: Permissions)
     requires { PermissionsSound t }
 {
     let s = Span { first: 0, last: 10 };
-    permission(t, top(), 0, grant(2, 1, 0, s, 18, 1));
-    permission(t, top(), 0, grant(2, 1, 0, s, 18, 3));
+    permission(rt, t, top(), 0, grant(2, 1, 0, s, 18, 1));
+    permission(rt, t, top(), 0, grant(2, 1, 0, s, 18, 3));
     permission(
+        rt,
         t,
         top(),
         0,
@@ -120,23 +121,29 @@ fn permissions(t: Permissions)
 }
 
 // At another path, under another name, and the one that is held there.
-fn other_permissions(t: Permissions)
+fn other_permissions(rt: &impl Print, t: Permissions)
     requires { PermissionsSound t }
 {
     let s = Span { first: 0, last: 10 };
-    permission(t, place(3), 0, grant(2, 1, 0, s, 18, 1));
-    permission(t, top(), 85, grant(2, 1, 0, s, 18, 1));
-    permission(t, top(), 85, grant(2, 1, 0, fill::always(), 66, 4294967295));
+    permission(rt, t, place(3), 0, grant(2, 1, 0, s, 18, 1));
+    permission(rt, t, top(), 85, grant(2, 1, 0, s, 18, 1));
+    permission(
+        rt,
+        t,
+        top(),
+        85,
+        grant(2, 1, 0, fill::always(), 66, 4294967295),
+    );
 }
 
-fn permission(t: Permissions, p: Path, name: u16, g: Grant)
+fn permission(rt: &impl Print, t: Permissions, p: Path, name: u16, g: Grant)
     requires { PermissionsSound t × PathSound p }
 {
-    text(b"permission ");
-    show::address(p);
-    text(b" ");
-    show::number(name as u64);
-    text(b" ");
-    show::terms(g);
-    show::either(holds_in(t, p, name, g), b": held\n", b": not held\n");
+    text(rt, b"permission ");
+    show::address(rt, p);
+    text(rt, b" ");
+    show::number(rt, name as u64);
+    text(rt, b" ");
+    show::terms(rt, g);
+    show::either(rt, holds_in(t, p, name, g), b": held\n", b": not held\n");
 }

@@ -1,9 +1,8 @@
-// What is written: numbers, paths, rows, decisions.
+// What is written: numbers, paths, rows, decisions. What cannot be written is left out.
 ghost use Rattle.path.specs.View.{PathSound};
 ghost use Rattle.tables.specs.View.{NodesSound, AttributesSound, PermissionsSound};
 
 use grants::Decision;
-use libc::STDOUT_FILENO;
 use path::Path;
 use tables::{Attribute, Attributes, Grant, Node, Nodes, Permission, Permissions, Span, Value};
 
@@ -15,107 +14,108 @@ pub struct Time {
 
 // ---- words and numbers
 
-pub fn text(s: &[u8]) {
-    io::write_all(STDOUT_FILENO, s);
+pub fn text(rt: &impl Print, s: &[u8]) {
+    let _ = rt.write_all(s);
 }
 
-pub fn number(n: u64) {
-    io::print_decimal(STDOUT_FILENO, n);
+pub fn number(rt: &impl Print, n: u64) {
+    let _ = rt.print(n);
 }
 
-pub fn line(words: &[u8], n: usize) {
-    text(words);
-    number(n as u64);
-    text(b"\n");
+pub fn line(rt: &impl Print, words: &[u8], n: usize) {
+    text(rt, words);
+    number(rt, n as u64);
+    text(rt, b"\n");
 }
 
-pub fn bound(n: usize, words: &[u8], over: bool) {
-    number(n as u64);
-    text(words);
-    either(over, b"over\n", b"within\n");
+pub fn bound(rt: &impl Print, n: usize, words: &[u8], over: bool) {
+    number(rt, n as u64);
+    text(rt, words);
+    either(rt, over, b"over\n", b"within\n");
 }
 
-pub fn either(yes: bool, a: &[u8], b: &[u8]) {
+pub fn either(rt: &impl Print, yes: bool, a: &[u8], b: &[u8]) {
     if yes {
-        text(a);
+        text(rt, a);
         return;
     }
-    text(b);
+    text(rt, b);
 }
 
-pub fn moment(t: Time) {
+pub fn moment(rt: &impl Print, t: Time) {
     if 0 <= t.seconds {
-        number(t.seconds as u64);
+        number(rt, t.seconds as u64);
         return;
     }
-    text(b"-");
-    number((!t.seconds) as u64 + 1);
+    text(rt, b"-");
+    number(rt, (!t.seconds) as u64 + 1);
 }
 
-pub fn span(s: Span) {
-    moment(Time { seconds: s.first });
-    text(b"..");
-    moment(Time { seconds: s.last });
+pub fn span(rt: &impl Print, s: Span) {
+    moment(rt, Time { seconds: s.first });
+    text(rt, b"..");
+    moment(rt, Time { seconds: s.last });
 }
 
 // ---- paths
 
 // The steps with a dot between them; a stroke for the root.
-pub fn address(p: Path)
+pub fn address(rt: &impl Print, p: Path)
     requires { PathSound p }
 {
     let n = path::size(p);
     if n == 0 {
-        text(b"/");
+        text(rt, b"/");
         return;
     }
     let mut i: usize = 0;
     while i < n {
-        step(i, path::step_of(p, i));
+        step(rt, i, path::step_of(p, i));
         i += 1;
     }
 }
 
-fn step(i: usize, s: u8) {
+fn step(rt: &impl Print, i: usize, s: u8) {
     if 0 < i {
-        text(b".");
+        text(rt, b".");
     }
-    number(s as u64);
+    number(rt, s as u64);
 }
 
 // ---- rows
 
-fn node(a: Node)
+fn node(rt: &impl Print, a: Node)
     requires { PathSound a.path }
 {
-    text(b"node ");
-    address(a.path);
-    text(b" owner ");
-    number(a.owner as u64);
-    text(b"\n");
+    text(rt, b"node ");
+    address(rt, a.path);
+    text(rt, b" owner ");
+    number(rt, a.owner as u64);
+    text(rt, b"\n");
 }
 
-pub fn nodes(t: Nodes)
+pub fn nodes(rt: &impl Print, t: Nodes)
     requires { NodesSound t }
 {
     let n = t.count;
     let mut i: usize = 0;
     while i < n {
-        node(t.rows[i]);
+        node(rt, t.rows[i]);
         i += 1;
     }
 }
 
 // A whole number, or a reading by its bits.
-pub fn value(v: Value) {
+pub fn value(rt: &impl Print, v: Value) {
     match v {
         Value::Whole(n) => {
-            text(b"whole ");
-            number(n as u64);
+            text(rt, b"whole ");
+            number(rt, n as u64);
         }
         Value::Reading(x) => {
-            text(b"reading ");
-            io::print_hex(STDOUT_FILENO, pattern(x) as u64, 8);
+            text(rt, b"reading ");
+            let bits = pattern(x);
+            let _ = print!(rt; "{bits:08x}");
         }
     }
 }
@@ -128,83 +128,83 @@ fn pattern(x: f32) -> u32 {
     f32::to_bits(x)
 }
 
-fn attribute(a: Attribute)
+fn attribute(rt: &impl Print, a: Attribute)
     requires { PathSound a.path }
 {
-    text(b"attribute ");
-    address(a.path);
-    text(b" ");
-    number(a.name as u64);
-    text(b" owner ");
-    number(a.owner as u64);
-    text(b" ");
+    text(rt, b"attribute ");
+    address(rt, a.path);
+    text(rt, b" ");
+    number(rt, a.name as u64);
+    text(rt, b" owner ");
+    number(rt, a.owner as u64);
+    text(rt, b" ");
     let v = a.value;
-    value(v);
-    text(b"\n");
+    value(rt, v);
+    text(rt, b"\n");
 }
 
-pub fn attributes(t: Attributes)
+pub fn attributes(rt: &impl Print, t: Attributes)
     requires { AttributesSound t }
 {
     let n = t.count;
     let mut i: usize = 0;
     while i < n {
-        attribute(t.rows[i]);
+        attribute(rt, t.rows[i]);
         i += 1;
     }
 }
 
-pub fn terms(g: Grant) {
-    text(b"role ");
-    number(g.role as u64);
-    text(b" action ");
-    number(g.action as u64);
-    text(b" user ");
-    number(g.user as u64);
-    text(b" ");
-    span(g.span);
-    provisions(g.messages, g.agreements);
+pub fn terms(rt: &impl Print, g: Grant) {
+    text(rt, b"role ");
+    number(rt, g.role as u64);
+    text(rt, b" action ");
+    number(rt, g.action as u64);
+    text(rt, b" user ");
+    number(rt, g.user as u64);
+    text(rt, b" ");
+    span(rt, g.span);
+    provisions(rt, g.messages, g.agreements);
 }
 
-fn provisions(messages: u32, agreements: u32) {
-    text(b" messages ");
-    number(messages as u64);
-    text(b" agreements ");
-    number(agreements as u64);
+fn provisions(rt: &impl Print, messages: u32, agreements: u32) {
+    text(rt, b" messages ");
+    number(rt, messages as u64);
+    text(rt, b" agreements ");
+    number(rt, agreements as u64);
 }
 
-fn permission(a: Permission)
+fn permission(rt: &impl Print, a: Permission)
     requires { PathSound a.path }
 {
-    text(b"permission ");
-    address(a.path);
-    text(b" ");
-    number(a.name as u64);
-    text(b" ");
-    terms(a.grant);
-    text(b"\n");
+    text(rt, b"permission ");
+    address(rt, a.path);
+    text(rt, b" ");
+    number(rt, a.name as u64);
+    text(rt, b" ");
+    terms(rt, a.grant);
+    text(rt, b"\n");
 }
 
-pub fn permissions(t: Permissions)
+pub fn permissions(rt: &impl Print, t: Permissions)
     requires { PermissionsSound t }
 {
     let n = t.count;
     let mut i: usize = 0;
     while i < n {
-        permission(t.rows[i]);
+        permission(rt, t.rows[i]);
         i += 1;
     }
 }
 
 // ---- decisions
 
-pub fn decision(d: Decision) {
+pub fn decision(rt: &impl Print, d: Decision) {
     match d {
-        Decision::Denied => text(b"denied\n"),
+        Decision::Denied => text(rt, b"denied\n"),
         Decision::Granted(m, a) => {
-            text(b"granted,");
-            provisions(m, a);
-            text(b"\n");
+            text(rt, b"granted,");
+            provisions(rt, m, a);
+            text(rt, b"\n");
         }
     }
 }

@@ -10,9 +10,11 @@ use serve::{
 };
 use show::helping::help;
 use state::Session;
+use std::rt::Files;
 use words::{Word, word_of};
 
 fn look(
+    rt: &(impl Files + Print),
     s: Session,
     c: Call,
     line: &[u8],
@@ -26,17 +28,18 @@ fn look(
     let r = c.request;
     let kind = c.kind;
     match kind {
-        23 => save(s, c, lent, out),
-        24 => save_clipboard(s, c, lent, out),
-        26 => ask_image(c, line, number, image, lent, out),
-        27 => store(s, c, line, number, lent, out),
-        28 => show_dossier(s, r.dossier, out),
-        29 => help(),
-        _ => say_bad(number, c.why, out),
+        23 => save(rt, s, c, lent, out),
+        24 => save_clipboard(rt, s, c, lent, out),
+        26 => ask_image(rt, c, line, number, image, lent, out),
+        27 => store(rt, s, c, line, number, lent, out),
+        28 => show_dossier(rt, s, r.dossier, out),
+        29 => help(rt),
+        _ => say_bad(rt, number, c.why, out),
     }
 }
 
 fn make_call(
+    rt: &(impl Files + Print),
     s: Session,
     c: Call,
     line: &[u8],
@@ -51,21 +54,22 @@ fn make_call(
     let r = c.request;
     let kind = c.kind;
     match kind {
-        17 | 18 | 22 => call_image(s, c, line, number, image, out),
-        19 => start_again(out),
-        20 => answered(renewed(s, r.dossier, r.user), b"", out),
-        21 => answered(signed(s, r.user, c.agreement), b"", out),
-        25 => take_log(s, c, lent, out),
+        17 | 18 | 22 => call_image(rt, s, c, line, number, image, out),
+        19 => start_again(rt, out),
+        20 => answered(rt, renewed(s, r.dossier, r.user), b"", out),
+        21 => answered(rt, signed(s, r.user, c.agreement), b"", out),
+        25 => take_log(rt, s, c, lent, out),
         0 | 23 | 24 | 26 | 27 | 28 | 29 => {
-            look(s, c, line, number, image, lent, out);
+            look(rt, s, c, line, number, image, lent, out);
             s
         }
-        _ => answered(requested(s, r, b""), b"", out),
+        _ => answered(rt, requested(s, r, b""), b"", out),
     }
 }
 
 // A line without its end: nothing for an empty one and for a comment, else its call is made.
 fn answer_words(
+    rt: &(impl Files + Print),
     s: Session,
     line: &[u8],
     number: u64,
@@ -83,10 +87,11 @@ fn answer_words(
         return s;
     }
     let c = call_in(line);
-    make_call(s, c, line, number, image, lent, out)
+    make_call(rt, s, c, line, number, image, lent, out)
 }
 
 pub fn answer_line(
+    rt: &(impl Files + Print),
     s: Session,
     number: u64,
     r: Reader,
@@ -99,12 +104,12 @@ pub fn answer_line(
     ensures { SessionSound result }
 {
     if r.long {
-        say_bad(number, TOO_LONG, out);
+        say_bad(rt, number, TOO_LONG, out);
         return s;
     }
     let words = Word {
         start: 0,
         end: r.len,
     };
-    answer_words(s, word_of(line, words), number, image, lent, out)
+    answer_words(rt, s, word_of(line, words), number, image, lent, out)
 }

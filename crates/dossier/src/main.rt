@@ -4,15 +4,18 @@
 
 use crate::answering::answer_line;
 use files::reading::{fresh_reader, next_line};
-use libc::STDIN_FILENO;
 use serve::fresh;
 use show::helping::help;
+use std::env::{Env, FillError};
+use std::fs;
+use std::io::Read;
+use std::rt::Files;
 use words::is_word;
 
 mod answering;
 
 // A proved loop has to end, and nothing says that a file does: so the lines are counted, up to a number that no run reaches.
-fn answer_all(fd: i32) {
+fn answer_all(rt: &(impl Files + Print), file: &mut impl Read) {
     let mut line = [0u8; 131072];
     let mut piece = [0u8; 65536];
     let mut image = [0u8; 65536];
@@ -23,38 +26,40 @@ fn answer_all(fd: i32) {
     let mut n: u64 = 0;
     while n < u64::MAX {
         n += 1;
-        r = next_line(fd, &mut line, &mut piece, r);
+        r = next_line(file, &mut line, &mut piece, r);
         if r.ended {
             return;
         }
-        s = answer_line(s, n, r, &line, &mut image, &mut lent, &mut out);
+        s = answer_line(rt, s, n, r, &line, &mut image, &mut lent, &mut out);
     }
 }
 
-fn answer_file(path: &[u8]) {
-    let fd = os::open_read(path);
-    if fd < 0 {
-        os::fail(path);
+fn answer_file(rt: &(impl Files + Print + Eprint), path: &[u8]) {
+    let Ok(name) = str::from_utf8(path) else {
+        let _ = rt.eprintln("dossier: the name of the file is not UTF-8");
         return;
+    };
+    match fs::open(rt, name) {
+        Ok(mut file) => answer_all(rt, &mut file),
+        Err(e) => {
+            let _ = eprintln!(rt; "{name}: {e}");
+        }
     }
-    answer_all(fd);
-    libc::close(fd);
 }
 
-fn main() {
-    if os::arg_count() < 2 {
-        answer_all(STDIN_FILENO);
-        return;
+fn main(rt: HostRuntime) {
+    let mut path = [0u8; 4096];
+    match rt.arg(1, &mut path) {
+        Err(FillError::NotPresent) => answer_all(&rt, &mut rt.stdin()),
+        Err(FillError::TooLong) => {
+            let _ = rt.eprintln("dossier: File name too long");
+        }
+        Ok(n) => {
+            if is_word(&path[..n], b"--help") {
+                help(&rt);
+                return;
+            }
+            answer_file(&rt, &path[..n]);
+        }
     }
-    let mut path = io::buffer();
-    let n = os::arg(1, &mut path);
-    if os::errno() != 0 {
-        os::fail(b"dossier");
-        return;
-    }
-    if is_word(&path[..n], b"--help") {
-        help();
-        return;
-    }
-    answer_file(&path[..n]);
 }

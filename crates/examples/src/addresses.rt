@@ -4,49 +4,49 @@ ghost use Rattle.path.specs.View.{PathSound};
 use crate::show::{number, text};
 use path::{Path, RawPath};
 
-pub fn example1() {
+pub fn example1(rt: &impl Print) {
     let q = at(2, [1, 2, 0, 0, 0, 0]);
-    text(b"1. Add at ");
-    address(q);
-    text(b": ");
-    added(at(2, [1, 2, 0, 0, 0, 0]), q);
-    text(b"; ");
-    added(at(3, [1, 2, 4, 0, 0, 0]), q);
-    text(b"; ");
-    added(at(2, [1, 10, 0, 0, 0, 0]), q);
-    text(b".\n");
+    text(rt, b"1. Add at ");
+    address(rt, q);
+    text(rt, b": ");
+    added(rt, at(2, [1, 2, 0, 0, 0, 0]), q);
+    text(rt, b"; ");
+    added(rt, at(3, [1, 2, 4, 0, 0, 0]), q);
+    text(rt, b"; ");
+    added(rt, at(2, [1, 10, 0, 0, 0, 0]), q);
+    text(rt, b".\n");
 }
 
-pub fn example2() {
+pub fn example2(rt: &impl Print) {
     let q = at(2, [1, 2, 0, 0, 0, 0]);
-    text(b"2. Same: ");
-    address(raised(at(1, [1, 0, 0, 0, 0, 0]), q));
-    text(b", ");
-    address(raised(at(2, [1, 1, 0, 0, 0, 0]), q));
-    text(b" and ");
-    address(raised(at(2, [2, 2, 0, 0, 0, 0]), q));
-    text(b" stay.\n");
+    text(rt, b"2. Same: ");
+    address(rt, raised(at(1, [1, 0, 0, 0, 0, 0]), q));
+    text(rt, b", ");
+    address(rt, raised(at(2, [1, 1, 0, 0, 0, 0]), q));
+    text(rt, b" and ");
+    address(rt, raised(at(2, [2, 2, 0, 0, 0, 0]), q));
+    text(rt, b" stay.\n");
 }
 
-pub fn example3() {
+pub fn example3(rt: &impl Print) {
     let q = at(2, [1, 2, 0, 0, 0, 0]);
-    text(b"3. Delete at ");
-    address(q);
-    text(b": ");
-    deleted(at(3, [1, 3, 1, 0, 0, 0]), q);
-    text(b"; ");
-    deleted(at(3, [1, 2, 5, 0, 0, 0]), q);
-    text(b"; ");
-    deleted(at(2, [1, 1, 0, 0, 0, 0]), q);
-    text(b".\n");
+    text(rt, b"3. Delete at ");
+    address(rt, q);
+    text(rt, b": ");
+    deleted(rt, at(3, [1, 3, 1, 0, 0, 0]), q);
+    text(rt, b"; ");
+    deleted(rt, at(3, [1, 2, 5, 0, 0, 0]), q);
+    text(rt, b"; ");
+    deleted(rt, at(2, [1, 1, 0, 0, 0, 0]), q);
+    text(rt, b".\n");
 }
 
 // ---- what becomes of a path
 
-fn added(p: Path, q: Path)
+fn added(rt: &impl Print, p: Path, q: Path)
     requires { PathSound p × PathSound q }
 {
-    told(p, raised(p, q));
+    told(rt, p, raised(p, q));
 }
 
 // Where p stands after an add at q, if the step that is raised stays a step.
@@ -67,29 +67,29 @@ fn raised(p: Path, q: Path) -> Path
     path::path_up(p, q)
 }
 
-fn deleted(p: Path, q: Path)
+fn deleted(rt: &impl Print, p: Path, q: Path)
     requires { PathSound p × PathSound q }
 {
     let m = path::path_down(p, q);
     if !m.there {
-        address(p);
-        text(b" goes");
+        address(rt, p);
+        text(rt, b" goes");
         return;
     }
-    told(p, m.path);
+    told(rt, p, m.path);
 }
 
 // Writes that p stays, or the path that it becomes.
-fn told(p: Path, r: Path)
+fn told(rt: &impl Print, p: Path, r: Path)
     requires { PathSound p × PathSound r }
 {
-    address(p);
+    address(rt, p);
     if path::key(p) == path::key(r) {
-        text(b" stays");
+        text(rt, b" stays");
         return;
     }
-    text(b" becomes ");
-    address(r);
+    text(rt, b" becomes ");
+    address(rt, r);
 }
 
 // ---- paths in and out
@@ -109,20 +109,20 @@ fn at(len: u8, steps: [u8; 6]) -> Path
 }
 
 // Writes the steps with a dot between them.
-fn address(p: Path)
+fn address(rt: &impl Print, p: Path)
     requires { PathSound p }
 {
     let n = path::size(p);
     let mut i: usize = 0;
     while i < n {
-        step(i, path::step_of(p, i));
+        step(rt, i, path::step_of(p, i));
         i += 1;
     }
 }
 
-fn step(i: usize, s: u8) {
+fn step(rt: &impl Print, i: usize, s: u8) {
     if 0 < i {
-        text(b".");
+        text(rt, b".");
     }
-    number(s as u64);
+    number(rt, s as u64);
 }

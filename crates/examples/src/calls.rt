@@ -48,10 +48,10 @@ pub fn answer(s: Session, r: Request) -> Answer
 }
 
 // The words before what a request is answered, and that.
-pub fn told(before: &[u8], s: Session, r: Request)
+pub fn told(rt: &impl Print, before: &[u8], s: Session, r: Request)
     requires { SessionSound s }
 {
-    answered(before, answer(s, r), b"granted");
+    answered(rt, before, answer(s, r), b"granted");
 }
 
 // ---- who asks, and where

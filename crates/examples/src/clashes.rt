@@ -2,20 +2,26 @@
 use crate::show::{either, text};
 use tables::{Grant, Span};
 
-pub fn example4() {
-    text(b"4. Intervals -5..0 and 0..9 with the same role, object, action and any user: ");
-    either(clash(0, early(), 0, late()), b"clash", b"none");
-    text(b". -5..-1 and 0..9: ");
-    either(clash(0, before(), 0, late()), b"clash", b"none");
-    text(b".\n");
+pub fn example4(rt: &impl Print) {
+    text(
+        rt,
+        b"4. Intervals -5..0 and 0..9 with the same role, object, action and any user: ",
+    );
+    either(rt, clash(0, early(), 0, late()), b"clash", b"none");
+    text(rt, b". -5..-1 and 0..9: ");
+    either(rt, clash(0, before(), 0, late()), b"clash", b"none");
+    text(rt, b".\n");
 }
 
-pub fn example5() {
-    text(b"5. The first pair of 4, but user 3 only against user 4 only: ");
-    either(clash(3, early(), 4, late()), b"clash", b"no clash");
-    text(b"; user 3 against any: ");
-    either(clash(3, early(), 0, late()), b"clash", b"no clash");
-    text(b".\n");
+pub fn example5(rt: &impl Print) {
+    text(
+        rt,
+        b"5. The first pair of 4, but user 3 only against user 4 only: ",
+    );
+    either(rt, clash(3, early(), 4, late()), b"clash", b"no clash");
+    text(rt, b"; user 3 against any: ");
+    either(rt, clash(3, early(), 0, late()), b"clash", b"no clash");
+    text(rt, b".\n");
 }
 
 fn early() -> Span {

@@ -16,16 +16,21 @@ struct Time {
 
 // ---- example 6
 
-pub fn example6() {
+pub fn example6(rt: &impl Print) {
     let s = permitted(fresh(), 1);
-    read(b"6. Permission 0..10: time -1 ", s, Time { seconds: -1 });
-    read(b", 0 ", s, Time { seconds: 0 });
-    read(b", 10 ", s, Time { seconds: 10 });
-    read(b", 11 ", s, Time { seconds: 11 });
-    text(b".\n");
+    read(
+        rt,
+        b"6. Permission 0..10: time -1 ",
+        s,
+        Time { seconds: -1 },
+    );
+    read(rt, b", 0 ", s, Time { seconds: 0 });
+    read(rt, b", 10 ", s, Time { seconds: 10 });
+    read(rt, b", 11 ", s, Time { seconds: 11 });
+    text(rt, b".\n");
 }
 
-fn read(before: &[u8], s: Session, t: Time)
+fn read(rt: &impl Print, before: &[u8], s: Session, t: Time)
     requires { SessionSound s }
 {
     let who = Subject {
@@ -33,27 +38,28 @@ fn read(before: &[u8], s: Session, t: Time)
         user: 3,
         time: t.seconds,
     };
-    told(before, s, request(1, who, top()));
+    told(rt, before, s, request(1, who, top()));
 }
 
 // ---- example 7: of role 2, a read permission covers and a delegate permission grants
 
-pub fn example7() {
+pub fn example7(rt: &impl Print) {
     let covered = permitted(fresh(), 1);
     let granted = permitted(fresh(), 4);
     let both = permitted(covered, 4);
-    delegate(b"7. Delegating to one's own role: ", both, 2);
-    delegate(b", when granted and covered; to another role ", both, 3);
-    delegate(b"; not covered, ", granted, 2);
-    delegate(b"; not granted, ", covered, 2);
-    text(b".\n");
+    delegate(rt, b"7. Delegating to one's own role: ", both, 2);
+    delegate(rt, b", when granted and covered; to another role ", both, 3);
+    delegate(rt, b"; not covered, ", granted, 2);
+    delegate(rt, b"; not granted, ", covered, 2);
+    text(rt, b".\n");
 }
 
 // Read of the root, handed on to a role.
-fn delegate(before: &[u8], s: Session, role: u8)
+fn delegate(rt: &impl Print, before: &[u8], s: Session, role: u8)
     requires { SessionSound s }
 {
     told(
+        rt,
         before,
         s,
         on_permission(16, other(), top(), during(role, 1, 0)),
@@ -62,23 +68,24 @@ fn delegate(before: &[u8], s: Session, role: u8)
 
 // ---- example 10
 
-pub fn example10() {
+pub fn example10(rt: &impl Print) {
     let s = permitted(fresh(), 2);
     let t = permitted(s, 1);
     change(
+        rt,
         b"10. Change permission without read, not the owner: change ",
         s,
         other(),
     );
-    change(b"; with read ", t, other());
-    change(b"; the owner ", s, owner());
-    text(b".\n");
+    change(rt, b"; with read ", t, other());
+    change(rt, b"; the owner ", s, owner());
+    text(rt, b".\n");
 }
 
-fn change(before: &[u8], s: Session, who: Subject)
+fn change(rt: &impl Print, before: &[u8], s: Session, who: Subject)
     requires { SessionSound s }
 {
-    told(before, s, request(3, who, place(1)));
+    told(rt, before, s, request(3, who, place(1)));
 }
 
 // ---- the permission

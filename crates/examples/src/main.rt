@@ -9,18 +9,18 @@ mod places;
 mod room;
 mod show;
 
-fn main() {
-    addresses::example1();
-    addresses::example2();
-    addresses::example3();
-    clashes::example4();
-    clashes::example5();
-    granted::example6();
-    granted::example7();
-    places::example8();
-    places::example9();
-    granted::example10();
-    room::example11();
-    room::example12();
-    places::example13();
+fn main(rt: HostRuntime) {
+    addresses::example1(&rt);
+    addresses::example2(&rt);
+    addresses::example3(&rt);
+    clashes::example4(&rt);
+    clashes::example5(&rt);
+    granted::example6(&rt);
+    granted::example7(&rt);
+    places::example8(&rt);
+    places::example9(&rt);
+    granted::example10(&rt);
+    room::example11(&rt);
+    room::example12(&rt);
+    places::example13(&rt);
 }

@@ -13,25 +13,25 @@ use state::{Answer, Session};
 
 // ---- example 8
 
-pub fn example8() {
+pub fn example8(rt: &impl Print) {
     let o = renewed(fresh(), 1, 5);
     let mut bytes = [255u8; 64];
     let a = via_save(o.session, 1, &mut bytes);
-    text(b"8. New dossier, owner 5: image ");
-    show::image(a, &bytes);
-    text(b".\n");
+    text(rt, b"8. New dossier, owner 5: image ");
+    show::image(rt, a, &bytes);
+    text(rt, b".\n");
 }
 
 // ---- example 9
 
-pub fn example9() {
+pub fn example9(rt: &impl Print) {
     let s = after(after(fresh(), add(place(1))), add(place(2)));
     let o = asked(s, add(place(3)));
-    show::children(b"9. Root with ", children(s));
-    answered(b": add at 3 ", o.answer, b"granted");
-    told(b" to the owner, at 4 ", s, add(place(4)));
-    show::children(b"; ", children(o.session));
-    text(b" afterwards.\n");
+    show::children(rt, b"9. Root with ", children(s));
+    answered(rt, b": add at 3 ", o.answer, b"granted");
+    told(rt, b" to the owner, at 4 ", s, add(place(4)));
+    show::children(rt, b"; ", children(o.session));
+    text(rt, b" afterwards.\n");
 }
 
 fn children(s: Session) -> Answer
@@ -42,36 +42,36 @@ fn children(s: Session) -> Answer
 
 // ---- example 13: nothing at the empty path can be added, nothing is at 1, the clipboard is empty, and only the owner reads the root
 
-pub fn example13() {
+pub fn example13(rt: &impl Print) {
     let s = fresh();
-    told(b"13. Blank user: ", s, request(1, blank(), top()));
-    text(b", before anything else");
-    before_place(s);
-    before_access(s);
-    text(b".\n");
+    told(rt, b"13. Blank user: ", s, request(1, blank(), top()));
+    text(rt, b", before anything else");
+    before_place(rt, s);
+    before_access(rt, s);
+    text(rt, b".\n");
 }
 
 // Refusals 2 and 3.
-fn before_place(s: Session)
+fn before_place(rt: &impl Print, s: Session)
     requires { SessionSound s }
 {
-    both(b": user 3 ", s, 3, top());
-    both(b"; user 3 ", s, 1, place(1));
+    both(rt, b": user 3 ", s, 3, top());
+    both(rt, b"; user 3 ", s, 1, place(1));
 }
 
 // Refusals 5 and 6.
-fn before_access(s: Session)
+fn before_access(rt: &impl Print, s: Session)
     requires { SessionSound s }
 {
-    both(b"; user 3 ", s, 7, place(1));
-    both(b"; user 3 ", s, 1, top());
+    both(rt, b"; user 3 ", s, 7, place(1));
+    both(rt, b"; user 3 ", s, 1, top());
 }
 
-fn both(before: &[u8], s: Session, number: u8, path: RawPath)
+fn both(rt: &impl Print, before: &[u8], s: Session, number: u8, path: RawPath)
     requires { SessionSound s }
 {
-    told(before, s, request(number, other(), path));
-    told(b", blank ", s, request(number, blank(), path));
+    told(rt, before, s, request(number, other(), path));
+    told(rt, b", blank ", s, request(number, blank(), path));
 }
 
 fn blank() -> Subject {

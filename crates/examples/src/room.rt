@@ -10,12 +10,15 @@ use state::{Request, Session};
 
 // ---- example 11: of the nodes 1, 1.1, 1.1.1 and 1.1.1.1 the first is copied, so that three steps stand below the top
 
-pub fn example11() {
+pub fn example11(rt: &impl Print) {
     let s = after(chain(fresh()), request(5, owner(), place(1)));
-    text(b"11. A branch with node paths of 3 steps below its top: paste ");
-    told(b"at depth 3 ", s, paste(at(3, [1, 1, 2, 0, 0, 0])));
-    told(b", at 4 ", s, paste(at(4, [1, 1, 1, 2, 0, 0])));
-    text(b".\n");
+    text(
+        rt,
+        b"11. A branch with node paths of 3 steps below its top: paste ",
+    );
+    told(rt, b"at depth 3 ", s, paste(at(3, [1, 1, 2, 0, 0, 0])));
+    told(rt, b", at 4 ", s, paste(at(4, [1, 1, 1, 2, 0, 0])));
+    text(rt, b".\n");
 }
 
 fn chain(s: Session) -> Session
@@ -37,12 +40,12 @@ fn paste(path: RawPath) -> Request {
 
 // ---- example 12
 
-pub fn example12() {
-    text(b"12. Node ");
-    nodes(crowded(fresh()));
-    text(b". Entry ");
-    entries(busy(after(fresh(), permit(during(2, 1, 1)))));
-    text(b".\n");
+pub fn example12(rt: &impl Print) {
+    text(rt, b"12. Node ");
+    nodes(rt, crowded(fresh()));
+    text(rt, b". Entry ");
+    entries(rt, busy(after(fresh(), permit(during(2, 1, 1)))));
+    text(rt, b".\n");
 }
 
 // The root is node 1, its children 1 to 32 are the nodes 2 to 33, and those of the node at 1 come next.
@@ -71,16 +74,16 @@ fn crowded(s: Session) -> Session
 }
 
 // The next node's number and answer, and those of the one after it.
-fn nodes(s: Session)
+fn nodes(rt: &impl Print, s: Session)
     requires { SessionSound s }
 {
     let o = asked(s, add(seat(64)));
     let t = o.session;
-    next(held_nodes(s));
-    answered(b" ", o.answer, b"is added");
-    text(b"; node ");
-    next(held_nodes(t));
-    answered(b" ", answer(t, add(seat(65))), b"is added");
+    next(rt, held_nodes(s));
+    answered(rt, b" ", o.answer, b"is added");
+    text(rt, b"; node ");
+    next(rt, held_nodes(t));
+    answered(rt, b" ", answer(t, add(seat(65))), b"is added");
 }
 
 fn held_nodes(s: Session) -> usize {
@@ -109,16 +112,16 @@ fn busy(s: Session) -> Session
 }
 
 // The next entry's number and answer, and those of the one after it.
-fn entries(s: Session)
+fn entries(rt: &impl Print, s: Session)
     requires { SessionSound s }
 {
     let o = asked(s, noted());
     let t = o.session;
-    next(held_entries(s));
-    answered(b" ", o.answer, b"is logged");
-    text(b"; ");
-    next(held_entries(t));
-    answered(b" ", answer(t, noted()), b"is logged");
+    next(rt, held_entries(s));
+    answered(rt, b" ", o.answer, b"is logged");
+    text(rt, b"; ");
+    next(rt, held_entries(t));
+    answered(rt, b" ", answer(t, noted()), b"is logged");
 }
 
 fn held_entries(s: Session) -> usize {
@@ -127,10 +130,10 @@ fn held_entries(s: Session) -> usize {
 }
 
 // The number after n, which is at most the log's bound.
-fn next(n: usize) {
+fn next(rt: &impl Print, n: usize) {
     if 256 < n {
-        text(b"over");
+        text(rt, b"over");
         return;
     }
-    number(n as u64 + 1);
+    number(rt, n as u64 + 1);
 }

@@ -1,78 +1,77 @@
-// What is written: words, numbers, answers.
-use libc::STDOUT_FILENO;
+// What is written: words, numbers, answers. What cannot be written is left out.
 use state::{Answer, Outcome};
 
-pub fn text(s: &[u8]) {
-    io::write_all(STDOUT_FILENO, s);
+pub fn text(rt: &impl Print, s: &[u8]) {
+    let _ = rt.write_all(s);
 }
 
-pub fn number(n: u64) {
-    io::print_decimal(STDOUT_FILENO, n);
+pub fn number(rt: &impl Print, n: u64) {
+    let _ = rt.print(n);
 }
 
-pub fn either(yes: bool, a: &[u8], b: &[u8]) {
+pub fn either(rt: &impl Print, yes: bool, a: &[u8], b: &[u8]) {
     if yes {
-        text(a);
+        text(rt, a);
         return;
     }
-    text(b);
+    text(rt, b);
 }
 
 // The words before an answer, and then its refusal number, or the words for one that is no refusal.
-pub fn answered(before: &[u8], a: Answer, good: &[u8]) {
-    text(before);
+pub fn answered(rt: &impl Print, before: &[u8], a: Answer, good: &[u8]) {
+    text(rt, before);
     let o = a.outcome;
     match o {
         Outcome::Refused(n) => {
-            text(b"refused ");
-            number(n as u64);
+            text(rt, b"refused ");
+            number(rt, n as u64);
         }
         Outcome::BadRecord(n) => {
-            text(b"refused 12 at record ");
-            number(n as u64);
+            text(rt, b"refused 12 at record ");
+            number(rt, n as u64);
         }
-        _ => text(good),
+        _ => text(rt, good),
     }
 }
 
 // The words before a child count that a read of a node answers.
-pub fn children(before: &[u8], a: Answer) {
-    text(before);
+pub fn children(rt: &impl Print, before: &[u8], a: Answer) {
+    text(rt, before);
     let o = a.outcome;
     match o {
         Outcome::Contents(n) => {
-            number(n as u64);
-            text(b" children");
+            number(rt, n as u64);
+            text(rt, b" children");
         }
-        _ => answered(b"", a, b"no child count"),
+        _ => answered(rt, b"", a, b"no child count"),
     }
 }
 
 // As many bytes as the answer says were written, two digits each.
-pub fn image(a: Answer, bytes: &[u8]) {
+pub fn image(rt: &impl Print, a: Answer, bytes: &[u8]) {
     let o = a.outcome;
     match o {
         Outcome::Wrote(n) => {
-            hex(n, bytes);
-            text(b", ");
-            number(n as u64);
-            text(b" bytes");
+            hex(rt, n, bytes);
+            text(rt, b", ");
+            number(rt, n as u64);
+            text(rt, b" bytes");
         }
-        _ => answered(b"", a, b"no bytes"),
+        _ => answered(rt, b"", a, b"no bytes"),
     }
 }
 
-fn hex(n: usize, bytes: &[u8]) {
+fn hex(rt: &impl Print, n: usize, bytes: &[u8]) {
     let mut i: usize = 0;
     while i < bytes.len() {
         if n <= i {
             return;
         }
-        byte(bytes[i]);
+        byte(rt, bytes[i]);
         i += 1;
     }
 }
 
-fn byte(b: u8) {
-    io::print_hex(STDOUT_FILENO, b as u64, 2);
+fn byte(rt: &impl Print, b: u8) {
+    let _ = print!(rt; "{b:02x}");
 }

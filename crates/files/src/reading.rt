@@ -1,4 +1,5 @@
 // Lines from a file that is read in pieces.
+use std::io::Read;
 
 // Of the piece, the bytes from `at` up to `got` are left. The line has `len` bytes, and is `long` where that is more than is held.
 #[derive(Clone, Copy)]
@@ -28,9 +29,8 @@ pub fn fresh_reader() -> Reader {
 }
 
 // The next piece; none at the end of the file, or where it cannot be read.
-fn refilled(fd: i32, piece: &mut [u8], r: Reader) -> Reader {
-    let got = libc::read(fd, piece);
-    let n = io::count(got, piece);
+fn refilled(file: &mut impl Read, piece: &mut [u8], r: Reader) -> Reader {
+    let n = file.read(piece).unwrap_or(0);
     Reader {
         at: 0,
         got: n,
@@ -106,7 +106,12 @@ fn last_line(line: &[u8], r: Reader) -> Reader {
 }
 
 // The next line, without its end.
-pub fn next_line(fd: i32, line: &mut [u8; 131072], piece: &mut [u8; 65536], r: Reader) -> Reader {
+pub fn next_line(
+    file: &mut impl Read,
+    line: &mut [u8; 131072],
+    piece: &mut [u8; 65536],
+    r: Reader,
+) -> Reader {
     let mut q = r;
     q.len = 0;
     q.long = false;
@@ -114,7 +119,7 @@ pub fn next_line(fd: i32, line: &mut [u8; 131072], piece: &mut [u8; 65536], r: R
     while 0 < turns {
         turns -= 1;
         if q.got <= q.at {
-            q = refilled(fd, piece, q);
+            q = refilled(file, piece, q);
             if q.ended {
                 return last_line(line, q);
             }

@@ -1,83 +1,100 @@
 // One image, changed: other lengths, one byte damaged, too little room for a save.
 ghost use Rattle.std.specs.Prelude.{◌≤◌};
+ghost use Rattle.std.specs.Counts.{IsPrefixLen};
 
 use crate::show::{either, number, text};
 use crate::{files, saved};
+use std::fs;
+use std::rt::Files;
 
 // ---- what load answers
 
 // good where it loads and saves as it was, else the record that is blamed.
-fn answer(image: &[u8]) {
+fn answer(rt: &impl Print, image: &[u8]) {
     let r = saved::load(image);
     if !r.good {
-        text(b"record ");
-        number(r.record);
+        text(rt, b"record ");
+        number(rt, r.record);
         return;
     }
     let d = r.dossier;
-    either(saved::saves_as(d, image), b"good", b"saved as other bytes");
+    either(
+        rt,
+        saved::saves_as(d, image),
+        b"good",
+        b"saved as other bytes",
+    );
 }
 
 // ---- lengths
 
-fn length_line(image: &[u8], n: usize) {
+fn length_line(rt: &impl Print, image: &[u8], n: usize) {
     if image.len() < n {
         return;
     }
-    text(b"length ");
-    number(n);
-    text(b": ");
-    answer(&image[..n]);
-    text(b"\n");
+    text(rt, b"length ");
+    number(rt, n);
+    text(rt, b": ");
+    answer(rt, &image[..n]);
+    text(rt, b"\n");
 }
 
 // The full image, with zeros behind it.
-fn lengths(image: &[u8]) {
-    length_line(image, 0);
-    length_line(image, 39);
-    length_line(image, 40);
-    length_line(image, 41);
-    length_line(image, 17880);
-    length_line(image, 17919);
-    length_line(image, 17920);
-    length_line(image, 17921);
-    length_line(image, 17960);
-    length_line(image, 18000);
+fn lengths(rt: &impl Print, image: &[u8]) {
+    length_line(rt, image, 0);
+    length_line(rt, image, 39);
+    length_line(rt, image, 40);
+    length_line(rt, image, 41);
+    length_line(rt, image, 17880);
+    length_line(rt, image, 17919);
+    length_line(rt, image, 17920);
+    length_line(rt, image, 17921);
+    length_line(rt, image, 17960);
+    length_line(rt, image, 18000);
 }
 
 // With a first record that is bad, the length still comes first.
-fn first_bad(image: &mut [u8; 18000]) {
-    text(b"first record bad\n");
+fn first_bad(rt: &impl Print, image: &mut [u8; 18000]) {
+    text(rt, b"first record bad\n");
     image[0] = 9;
-    length_line(image, 17920);
-    length_line(image, 17921);
+    length_line(rt, image, 17920);
+    length_line(rt, image, 17921);
 }
 
-pub fn full() {
-    let fd = os::open_read(b"full.image");
+// The start of a file; none where it cannot be opened.
+fn opened(rt: &impl Files, name: &str, most: usize, out: &mut [u8]) -> usize
+    ensures { IsPrefixLen result out.new }
+{
+    match fs::open(rt, name) {
+        Ok(mut file) => files::bytes(&mut file, most, out),
+        Err(_) => 0,
+    }
+}
+
+pub fn full(rt: &(impl Files + Print)) {
     let mut image = files::space();
-    let n = files::bytes(fd, 17920, &mut image);
-    libc::close(fd);
-    lengths(&image);
-    room(&image[..n]);
-    first_bad(&mut image);
+    let n = opened(rt, "full.image", 17920, &mut image);
+    lengths(rt, &image);
+    room(rt, &image[..n]);
+    first_bad(rt, &mut image);
 }
 
 // ---- room
 
 // A save into one byte less than it needs.
-fn room(image: &[u8]) {
+fn room(rt: &impl Print, image: &[u8]) {
     let n = image.len();
     if n == 0 {
         return;
     }
     let r = saved::load(image);
     let d = r.dossier;
-    text(b"save of ");
-    number(n);
-    text(b" bytes into ");
-    number(n - 1);
+    text(rt, b"save of ");
+    number(rt, n);
+    text(rt, b" bytes into ");
+    number(rt, n - 1);
     either(
+        rt,
         saved::is_refused(d, n - 1),
         b": refused, buffer kept\n",
         b": wrong\n",
@@ -98,52 +115,50 @@ fn flipped(b: u8) -> u8 {
 }
 
 // The byte at k is replaced, and put back.
-fn with_byte(image: &mut [u8], k: usize, b: u8) {
+fn with_byte(rt: &impl Print, image: &mut [u8], k: usize, b: u8) {
     if image.len() <= k {
         return;
     }
     let old = image[k];
     image[k] = b;
-    answer(image);
+    answer(rt, image);
     image[k] = old;
 }
 
 // Byte i of a record, which is byte k of the image.
-fn position(image: &mut [u8], kind: &[u8], k: usize, i: usize) {
+fn position(rt: &impl Print, image: &mut [u8], kind: &[u8], k: usize, i: usize) {
     if image.len() <= k {
         return;
     }
     let b = image[k];
-    text(kind);
-    number(i);
-    text(b": ");
-    with_byte(image, k, next(b));
-    text(b", ");
-    with_byte(image, k, flipped(b));
-    text(b"\n");
+    text(rt, kind);
+    number(rt, i);
+    text(rt, b": ");
+    with_byte(rt, image, k, next(b));
+    text(rt, b", ");
+    with_byte(rt, image, k, flipped(b));
+    text(rt, b"\n");
 }
 
 // Each byte of the record that starts at `at`.
-fn record(image: &mut [u8], kind: &[u8], at: usize)
+fn record(rt: &impl Print, image: &mut [u8], kind: &[u8], at: usize)
     requires { at ≤ 440 }
 {
     let mut i: usize = 0;
     while i < 40 {
-        position(image, kind, at + i, i);
+        position(rt, image, kind, at + i, i);
         i += 1;
     }
 }
 
 // The second, the seventh and the eleventh record of the image: a node with a sibling and a child, an attribute with a permission,
 // and that permission.
-pub fn damaged() {
-    let fd = os::open_read(b"three.image");
+pub fn damaged(rt: &(impl Files + Print)) {
     let mut image = [0u8; 480];
-    files::bytes(fd, 480, &mut image);
-    libc::close(fd);
-    text(b"one byte damaged: byte + 1, byte xor 128\n");
-    record(&mut image, b"node ", 40);
-    record(&mut image, b"attribute ", 240);
-    record(&mut image, b"permission ", 400);
-    room(&image);
+    opened(rt, "three.image", 480, &mut image);
+    text(rt, b"one byte damaged: byte + 1, byte xor 128\n");
+    record(rt, &mut image, b"node ", 40);
+    record(rt, &mut image, b"attribute ", 240);
+    record(rt, &mut image, b"permission ", 400);
+    room(rt, &image);
 }

@@ -1,6 +1,23 @@
 // Files of images: a length, in some a record number before it, then the bytes.
 ghost use Rattle.std.specs.Prelude.{◌≡◌, ◌<◌, length};
-ghost use Rattle.io.specs.Counts.{IsPrefixLen};
+ghost use Rattle.std.specs.Counts.{IsPrefixLen};
+
+use std::io::Read;
+
+// Reads until the buffer is full, the file ends or a read fails, and answers how many bytes came.
+fn read_full(file: &mut impl Read, out: &mut [u8]) -> usize
+    ensures { IsPrefixLen result out.new }
+{
+    let mut done: usize = 0;
+    while done < out.len() {
+        let n = file.read(&mut out[done..]).unwrap_or(0);
+        if n == 0 {
+            return done;
+        }
+        done += n;
+    }
+    done
+}
 
 // A number of four bytes, or that the file has ended.
 #[derive(Clone, Copy)]
@@ -21,9 +38,9 @@ fn value(b: &[u8; 4]) -> usize {
     high * 65536 + low
 }
 
-pub fn number(fd: i32) -> Head {
+pub fn number(file: &mut impl Read) -> Head {
     let mut four = [0u8; 4];
-    let got = io::read_full(fd, &mut four);
+    let got = read_full(file, &mut four);
     if got < 4 {
         return Head { there: false, n: 0 };
     }
@@ -41,11 +58,11 @@ pub fn space() -> [u8; 18000]
 }
 
 // Reads the next n bytes to the start of the buffer, and answers how many came; none where they don't fit.
-pub fn bytes(fd: i32, n: usize, out: &mut [u8]) -> usize
+pub fn bytes(file: &mut impl Read, n: usize, out: &mut [u8]) -> usize
     ensures { IsPrefixLen result out.new }
 {
     if out.len() < n {
         return 0;
     }
-    io::read_full(fd, &mut out[..n])
+    read_full(file, &mut out[..n])
 }

@@ -7,10 +7,10 @@ mod saved;
 mod show;
 mod whole;
 
-fn main() {
-    whole::good();
-    whole::bad(b"bad", b"bad.images");
-    whole::bad(b"over", b"over.images");
-    damage::full();
-    damage::damaged();
+fn main(rt: HostRuntime) {
+    whole::good(&rt);
+    whole::bad(&rt, b"bad", "bad.images");
+    whole::bad(&rt, b"over", "over.images");
+    damage::full(&rt);
+    damage::damaged(&rt);
 }

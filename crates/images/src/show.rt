@@ -1,18 +1,17 @@
-// What is written.
-use libc::STDOUT_FILENO;
+// What is written. What cannot be written is left out.
 
-pub fn text(s: &[u8]) {
-    io::write_all(STDOUT_FILENO, s);
+pub fn text(rt: &impl Print, s: &[u8]) {
+    let _ = rt.write_all(s);
 }
 
-pub fn number(n: usize) {
-    io::print_decimal(STDOUT_FILENO, n as u64);
+pub fn number(rt: &impl Print, n: usize) {
+    let _ = rt.print(n);
 }
 
-pub fn either(yes: bool, a: &[u8], b: &[u8]) {
+pub fn either(rt: &impl Print, yes: bool, a: &[u8], b: &[u8]) {
     if yes {
-        text(a);
+        text(rt, a);
         return;
     }
-    text(b);
+    text(rt, b);
 }

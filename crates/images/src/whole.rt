@@ -3,6 +3,9 @@ ghost use Rattle.std.specs.Prelude.{◌≤◌};
 
 use crate::show::{number, text};
 use crate::{files, saved};
+use std::io::Read;
+use std::rt::Files;
+use std::{fs, io};
 
 // More than any file has.
 const MOST: usize = 100000;
@@ -41,12 +44,12 @@ fn one_if(wrong: bool) -> usize
     0
 }
 
-fn try_good(fd: i32) -> Tried
+fn try_good(file: &mut impl Read) -> Tried
     ensures { (result.records ≤ 450) × (result.wrong ≤ 1) }
 {
-    let head = files::number(fd);
+    let head = files::number(file);
     let mut space = files::space();
-    let n = files::bytes(fd, head.n, &mut space);
+    let n = files::bytes(file, head.n, &mut space);
     let right = is_right(&space[..n]) & (n == head.n);
     Tried {
         there: head.there,
@@ -55,12 +58,12 @@ fn try_good(fd: i32) -> Tried
     }
 }
 
-fn try_all(fd: i32) -> Tally {
+fn try_all(file: &mut impl Read) -> Tally {
     let mut images: usize = 0;
     let mut records: usize = 0;
     let mut wrong: usize = 0;
     while images < MOST {
-        let t = try_good(fd);
+        let t = try_good(file);
         if !t.there {
             return Tally {
                 images,
@@ -79,17 +82,19 @@ fn try_all(fd: i32) -> Tally {
     }
 }
 
-pub fn good() {
-    let fd = os::open_read(b"good.images");
-    let t = try_all(fd);
-    libc::close(fd);
-    text(b"good: ");
-    number(t.images);
-    text(b" images, ");
-    number(t.records);
-    text(b" records, ");
-    number(t.wrong);
-    text(b" wrong\n");
+// A file that cannot be opened has no images.
+pub fn good(rt: &(impl Files + Print)) {
+    let t = match fs::open(rt, "good.images") {
+        Ok(mut file) => try_all(&mut file),
+        Err(_) => try_all(&mut io::empty()),
+    };
+    text(rt, b"good: ");
+    number(rt, t.images);
+    text(rt, b" images, ");
+    number(rt, t.records);
+    text(rt, b" records, ");
+    number(rt, t.wrong);
+    text(rt, b" wrong\n");
 }
 
 // ---- bad images
@@ -102,13 +107,13 @@ struct Blamed {
     wrong: usize,
 }
 
-fn try_bad(fd: i32) -> Blamed
+fn try_bad(file: &mut impl Read) -> Blamed
     ensures { result.wrong ≤ 1 }
 {
-    let head = files::number(fd);
-    let size = files::number(fd);
+    let head = files::number(file);
+    let size = files::number(file);
     let mut space = files::space();
-    let n = files::bytes(fd, size.n, &mut space);
+    let n = files::bytes(file, size.n, &mut space);
     let r = saved::load(&space[..n]);
     let right = !r.good & ((r.record == head.n) & (n == size.n));
     Blamed {
@@ -132,11 +137,11 @@ fn blame(table: &mut [usize; 449], record: usize) {
     }
 }
 
-fn blame_all(fd: i32, table: &mut [usize; 449]) -> Tally {
+fn blame_all(file: &mut impl Read, table: &mut [usize; 449]) -> Tally {
     let mut images: usize = 0;
     let mut wrong: usize = 0;
     while images < MOST {
-        let t = try_bad(fd);
+        let t = try_bad(file);
         if !t.there {
             return Tally {
                 images,
@@ -155,35 +160,36 @@ fn blame_all(fd: i32, table: &mut [usize; 449]) -> Tally {
     }
 }
 
-fn show_table(table: &[usize; 449]) {
+fn show_table(rt: &impl Print, table: &[usize; 449]) {
     let mut k: usize = 0;
     while k < 449 {
-        show_blame(k, table[k]);
+        show_blame(rt, k, table[k]);
         k += 1;
     }
 }
 
-fn show_blame(record: usize, images: usize) {
+fn show_blame(rt: &impl Print, record: usize, images: usize) {
     if images == 0 {
         return;
     }
-    text(b"record ");
-    number(record);
-    text(b": ");
-    number(images);
-    text(b"\n");
+    text(rt, b"record ");
+    number(rt, record);
+    text(rt, b": ");
+    number(rt, images);
+    text(rt, b"\n");
 }
 
-pub fn bad(name: &[u8], file: &[u8]) {
-    let fd = os::open_read(file);
+pub fn bad(rt: &(impl Files + Print), name: &[u8], file: &str) {
     let mut table = [0usize; 449];
-    let t = blame_all(fd, &mut table);
-    libc::close(fd);
-    text(name);
-    text(b": ");
-    number(t.images);
-    text(b" images, ");
-    number(t.wrong);
-    text(b" wrong\n");
-    show_table(&table);
+    let t = match fs::open(rt, file) {
+        Ok(mut images) => blame_all(&mut images, &mut table),
+        Err(_) => blame_all(&mut io::empty(), &mut table),
+    };
+    text(rt, name);
+    text(rt, b": ");
+    number(rt, t.images);
+    text(rt, b" images, ");
+    number(rt, t.wrong);
+    text(rt, b" wrong\n");
+    show_table(rt, &table);
 }

@@ -2,7 +2,7 @@
 #![tactic(auto)]
 
 ghost use Rattle.state.specs.View.{SessionSound};
-ghost use Rattle.io.specs.Counts.{IsPrefixLen};
+ghost use Rattle.std.specs.Counts.{IsPrefixLen};
 
 use answers::{put_answer, put_asked, put_stored};
 use ask::dossier_ask;
@@ -15,18 +15,19 @@ use session::{
 };
 use show::{say, show};
 use state::{Answer, Outcome, Request, Session, Stepped, plain};
+use std::rt::Files;
 use words::{Word, word_of};
 
 // ---- what is written
 
-fn say_answer(a: Answer, lent: &[u8], out: &mut [u8]) {
+fn say_answer(rt: &impl Print, a: Answer, lent: &[u8], out: &mut [u8]) {
     let n = put_answer(out, a, lent);
-    say(out, n);
+    say(rt, out, n);
 }
 
-pub fn say_bad(number: u64, why: u8, out: &mut [u8]) {
+pub fn say_bad(rt: &impl Print, number: u64, why: u8, out: &mut [u8]) {
     let n = put_bad(out, number, why);
-    say(out, n);
+    say(rt, out, n);
 }
 
 // ---- the calls: each leaves a sound session
@@ -75,19 +76,19 @@ fn log_taken(s: Session, out: &mut [u8]) -> Stepped
 // ---- calls that leave a session
 
 // The answer is written, and the session handed on.
-pub fn answered(o: Stepped, lent: &[u8], out: &mut [u8]) -> Session
+pub fn answered(rt: &impl Print, o: Stepped, lent: &[u8], out: &mut [u8]) -> Session
     requires { SessionSound o.session }
     ensures { SessionSound result }
 {
     let a = o.answer;
-    say_answer(a, lent, out);
+    say_answer(rt, a, lent, out);
     o.session
 }
 
-pub fn start_again(out: &mut [u8]) -> Session
+pub fn start_again(rt: &impl Print, out: &mut [u8]) -> Session
     ensures { SessionSound result }
 {
-    say_answer(plain(Outcome::Done), b"", out);
+    say_answer(rt, plain(Outcome::Done), b"", out);
     fresh()
 }
 
@@ -103,17 +104,25 @@ fn called(s: Session, c: Call, image: &[u8]) -> Stepped
     requested(s, r, image)
 }
 
-fn call_bytes(s: Session, c: Call, image: &[u8], len: usize, out: &mut [u8]) -> Session
+fn call_bytes(
+    rt: &impl Print,
+    s: Session,
+    c: Call,
+    image: &[u8],
+    len: usize,
+    out: &mut [u8],
+) -> Session
     requires { SessionSound s }
     ensures { SessionSound result }
 {
     let bytes = Word { start: 0, end: len };
     let o = called(s, c, word_of(image, bytes));
-    answered(o, b"", out)
+    answered(rt, o, b"", out)
 }
 
 // A load, or a request with an image. A word that is left out is empty, which reads as no bytes.
 pub fn call_image(
+    rt: &(impl Files + Print),
     s: Session,
     c: Call,
     line: &[u8],
@@ -124,21 +133,21 @@ pub fn call_image(
     requires { SessionSound s }
     ensures { SessionSound result }
 {
-    let i = image_in(line, c.word, image);
+    let i = image_in(rt, line, c.word, image);
     if i.why != 0 {
-        say_bad(number, i.why, out);
+        say_bad(rt, number, i.why, out);
         return s;
     }
-    call_bytes(s, c, image, i.len, out)
+    call_bytes(rt, s, c, image, i.len, out)
 }
 
-pub fn take_log(s: Session, c: Call, lent: &mut [u8], out: &mut [u8]) -> Session
+pub fn take_log(rt: &impl Print, s: Session, c: Call, lent: &mut [u8], out: &mut [u8]) -> Session
     requires { SessionSound s }
     ensures { SessionSound result }
 {
     let n = room_in(c.room, lent);
     let o = log_taken(s, &mut lent[..n]);
-    answered(o, lent, out)
+    answered(rt, o, lent, out)
 }
 
 // ---- calls that look at the session
@@ -153,25 +162,33 @@ fn room_in(room: usize, lent: &[u8]) -> usize
     room
 }
 
-pub fn save(s: Session, c: Call, lent: &mut [u8], out: &mut [u8])
+pub fn save(rt: &impl Print, s: Session, c: Call, lent: &mut [u8], out: &mut [u8])
     requires { SessionSound s }
 {
     let r = c.request;
     let n = room_in(c.room, lent);
     let a = via_save(s, r.dossier, &mut lent[..n]);
-    say_answer(a, lent, out);
+    say_answer(rt, a, lent, out);
 }
 
-pub fn save_clipboard(s: Session, c: Call, lent: &mut [u8], out: &mut [u8])
+pub fn save_clipboard(rt: &impl Print, s: Session, c: Call, lent: &mut [u8], out: &mut [u8])
     requires { SessionSound s }
 {
     let n = room_in(c.room, lent);
     let a = via_save_clipboard(s, &mut lent[..n]);
-    say_answer(a, lent, out);
+    say_answer(rt, a, lent, out);
 }
 
 // What save answers, written to a file.
-pub fn store(s: Session, c: Call, line: &[u8], number: u64, lent: &mut [u8], out: &mut [u8])
+pub fn store(
+    rt: &(impl Files + Print),
+    s: Session,
+    c: Call,
+    line: &[u8],
+    number: u64,
+    lent: &mut [u8],
+    out: &mut [u8],
+)
     requires { SessionSound s }
 {
     let r = c.request;
@@ -179,31 +196,31 @@ pub fn store(s: Session, c: Call, line: &[u8], number: u64, lent: &mut [u8], out
     let a = via_save(s, r.dossier, &mut lent[..n]);
     let outcome = a.outcome;
     let Outcome::Wrote(size) = outcome else {
-        say_answer(a, lent, out);
+        say_answer(rt, a, lent, out);
         return;
     };
     let bytes = Word {
         start: 0,
         end: size,
     };
-    if !stored(word_of(line, c.word), word_of(lent, bytes)) {
-        say_bad(number, NOT_WRITTEN, out);
+    if !stored(rt, word_of(line, c.word), word_of(lent, bytes)) {
+        say_bad(rt, number, NOT_WRITTEN, out);
         return;
     }
     let end = put_stored(out, size);
-    say(out, end);
+    say(rt, out, end);
 }
 
-pub fn show_dossier(s: Session, n: u8, out: &mut [u8]) {
+pub fn show_dossier(rt: &impl Print, s: Session, n: u8, out: &mut [u8]) {
     if n == 1 {
-        show(s.one, out);
+        show(rt, s.one, out);
         return;
     }
     if n == 2 {
-        show(s.two, out);
+        show(rt, s.two, out);
         return;
     }
-    say_answer(plain(Outcome::Refused(1)), b"", out);
+    say_answer(rt, plain(Outcome::Refused(1)), b"", out);
 }
 
 // ---- a decision on an image
@@ -229,15 +246,16 @@ fn decision(c: Call, image: &[u8], lent: &mut [u8]) -> u32 {
     )
 }
 
-fn ask_bytes(c: Call, image: &[u8], len: usize, lent: &mut [u8], out: &mut [u8]) {
+fn ask_bytes(rt: &impl Print, c: Call, image: &[u8], len: usize, lent: &mut [u8], out: &mut [u8]) {
     let bytes = Word { start: 0, end: len };
     let n = room_in(c.room, lent);
     let d = decision(c, word_of(image, bytes), &mut lent[..n]);
     let end = put_asked(out, d, four_at(lent, 0), four_at(lent, 4));
-    say(out, end);
+    say(rt, out, end);
 }
 
 pub fn ask_image(
+    rt: &(impl Files + Print),
     c: Call,
     line: &[u8],
     number: u64,
@@ -245,10 +263,10 @@ pub fn ask_image(
     lent: &mut [u8],
     out: &mut [u8],
 ) {
-    let i = image_in(line, c.word, image);
+    let i = image_in(rt, line, c.word, image);
     if i.why != 0 {
-        say_bad(number, i.why, out);
+        say_bad(rt, number, i.why, out);
         return;
     }
-    ask_bytes(c, image, i.len, lent, out);
+    ask_bytes(rt, c, image, i.len, lent, out);
 }

@@ -3,7 +3,6 @@
 
 use answers::{put_byte, put_digits, put_number, put_text};
 use encode::{bits_of_time, pattern_of};
-use libc::STDOUT_FILENO;
 use path::{Path, key, raw_of};
 use tables::{
     Attribute, Attributes, Dossier, Grant, Node, Nodes, Permission, Permissions, Span, Value,
@@ -12,10 +11,10 @@ use words::{Word, word_of};
 
 pub mod helping;
 
-// The first n bytes of a buffer.
-pub fn say(out: &[u8], n: usize) {
+// Writes the first n bytes of a buffer. What cannot be written is left out.
+pub fn say(rt: &impl Print, out: &[u8], n: usize) {
     let line = Word { start: 0, end: n };
-    io::write_all(STDOUT_FILENO, word_of(out, line));
+    let _ = rt.write_all(word_of(out, line));
 }
 
 // ---- parts of a line
@@ -150,33 +149,33 @@ fn put_grant(out: &mut [u8], at: usize, g: Grant) -> usize {
 
 // ---- lines
 
-fn show_permission(a: Permission, more: usize, out: &mut [u8]) {
+fn show_permission(rt: &impl Print, a: Permission, more: usize, out: &mut [u8]) {
     let mut at = indent(out, a.path, more);
     at = put_grant(out, at, a.grant);
     at = put_byte(out, at, 10);
-    say(out, at);
+    say(rt, out, at);
 }
 
-fn show_owner(owner: u8, at: usize, out: &mut [u8]) {
+fn show_owner(rt: &impl Print, owner: u8, at: usize, out: &mut [u8]) {
     let mut to = put_text(out, at, b", owner ");
     to = put_number(out, to, owner as u64);
     to = put_byte(out, to, 10);
-    say(out, to);
+    say(rt, out, to);
 }
 
-fn show_attribute(a: Attribute, out: &mut [u8]) {
+fn show_attribute(rt: &impl Print, a: Attribute, out: &mut [u8]) {
     let value = a.value;
     let mut at = indent(out, a.path, 4);
     at = put_number(out, at, a.name as u64);
     at = put_text(out, at, b" = ");
     at = put_value(out, at, value);
-    show_owner(a.owner, at, out);
+    show_owner(rt, a.owner, at, out);
 }
 
-fn show_node(a: Node, out: &mut [u8]) {
+fn show_node(rt: &impl Print, a: Node, out: &mut [u8]) {
     let mut at = indent(out, a.path, 0);
     at = put_address(out, at, a.path);
-    show_owner(a.owner, at, out);
+    show_owner(rt, a.owner, at, out);
 }
 
 // ---- the tree
@@ -186,7 +185,14 @@ fn is_at(a: Path, b: Path) -> bool {
 }
 
 // The permissions for one object: name 0 is the node.
-fn show_permissions(t: Permissions, p: Path, name: u16, more: usize, out: &mut [u8]) {
+fn show_permissions(
+    rt: &impl Print,
+    t: Permissions,
+    p: Path,
+    name: u16,
+    more: usize,
+    out: &mut [u8],
+) {
     let n = t.count;
     let mut i: usize = 0;
     while i < 128 {
@@ -195,7 +201,7 @@ fn show_permissions(t: Permissions, p: Path, name: u16, more: usize, out: &mut [
         }
         let row = t.rows[i];
         if is_at(row.path, p) & (row.name == name) {
-            show_permission(row, more, out);
+            show_permission(rt, row, more, out);
             i += 1;
         } else {
             i += 1;
@@ -204,7 +210,13 @@ fn show_permissions(t: Permissions, p: Path, name: u16, more: usize, out: &mut [
 }
 
 // The attributes of one node, each with its permissions.
-fn show_attributes(t: Attributes, permissions: Permissions, p: Path, out: &mut [u8]) {
+fn show_attributes(
+    rt: &impl Print,
+    t: Attributes,
+    permissions: Permissions,
+    p: Path,
+    out: &mut [u8],
+) {
     let n = t.count;
     let mut i: usize = 0;
     while i < 256 {
@@ -213,8 +225,8 @@ fn show_attributes(t: Attributes, permissions: Permissions, p: Path, out: &mut [
         }
         let row = t.rows[i];
         if is_at(row.path, p) {
-            show_attribute(row, out);
-            show_permissions(permissions, p, row.name, 8, out);
+            show_attribute(rt, row, out);
+            show_permissions(rt, permissions, p, row.name, 8, out);
             i += 1;
         } else {
             i += 1;
@@ -250,13 +262,13 @@ fn next_row(t: Nodes, last: u64) -> usize {
     found
 }
 
-fn show_branch(a: Node, d: Dossier, out: &mut [u8]) {
-    show_node(a, out);
-    show_permissions(d.permissions, a.path, 0, 4, out);
-    show_attributes(d.attributes, d.permissions, a.path, out);
+fn show_branch(rt: &impl Print, a: Node, d: Dossier, out: &mut [u8]) {
+    show_node(rt, a, out);
+    show_permissions(rt, d.permissions, a.path, 0, 4, out);
+    show_attributes(rt, d.attributes, d.permissions, a.path, out);
 }
 
-pub fn show(d: Dossier, out: &mut [u8]) {
+pub fn show(rt: &impl Print, d: Dossier, out: &mut [u8]) {
     let t = d.nodes;
     let mut last: u64 = 0;
     let mut i: usize = 0;
@@ -266,7 +278,7 @@ pub fn show(d: Dossier, out: &mut [u8]) {
             return;
         }
         let row = t.rows[k];
-        show_branch(row, d, out);
+        show_branch(rt, row, d, out);
         last = place_of(row.path);
         i += 1;
     }
