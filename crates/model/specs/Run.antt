@@ -1,5 +1,5 @@
 -- Every public call: what it answers, what it leaves, and runs of calls from the fresh state.
-use Rattle.std.specs.Prelude.{Bool, true, false, ◌&&◌, not, List, [], ◌∷◌, ◌++◌, map, ℕ, ◌+◌, ◌-◌, ◌^◌, ℤ, eqb, leb, ltb, length, drop, get_or, set}
+use Rattle.std.specs.Prelude.{Bool, true, false, ◌&&◌, not, List, [], ◌∷◌, ◌++◌, map, ℕ, ◌-◌, ◌^◌, ℤ, eqb, leb, ltb, length, drop, get_or, set}
 use Rattle.std.proofs.Math.Option.{Option, none, some}
 use Rattle.std.specs.Int.Bits.{bit_or}
 use Rattle.laws.specs.Slots.{pick}

@@ -11,7 +11,7 @@ use lib.ListN.{length, take, get_or}
 use Rattle.laws.specs.Sorted.{◌∈◌, Sorted, nil, cons}
 use Rattle.laws.specs.Order.{lt_list}
 use Rattle.path.proofs.Moves.{pick_yes, pick_some}
-use Rattle.model.specs.Image.{Record, encode, in_range, decode, accept, Loaded, bad, good, next, scan}
+use Rattle.model.specs.Image.{Record, encode, in_range, decode, Loaded, bad, good, next, scan}
 use Rattle.roundtrip.proofs.Prefix.{sorted_more}
 use Rattle.roundtrip.proofs.Bytes.{less, less_order}
 use Rattle.roundtrip.proofs.Records.{record_trip, record_back, decode_good}

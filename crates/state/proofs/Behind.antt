@@ -1,11 +1,10 @@
 -- Rows put behind those that a table holds, for any rows and any struct around them. Assumes nothing.
 use mathlib.Core.Path.{◌≡◌, refl, sym, ap, ap₂, ◌∙◌}
 use mathlib.Core.List.{List, [], ◌∷◌, ◌++◌, append_assoc}
-use Prim.Native.Nat.{ℕ, zero, suc, ◌+◌, ◌-◌, ◌≤◌}
-use native.Mathlib.Numerals.{unary_clauses}
+use Prim.Native.Nat.{ℕ, zero, suc, ◌+◌, ◌-◌}
 use native.Mathlib.Omega.{arith}
 use lib.ListN.{length, take, drop, replicate, length-append}
-use lib.Seq.{take_at, drop_at}
+use lib.Seq.{take_at}
 use Rattle.laws.specs.Slots.{slots, filled}
 
 drop_blank : {A : Type 0} (b : A) (n k : ℕ) → drop k (replicate n b) ≡ replicate (n - k) b

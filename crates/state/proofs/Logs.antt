@@ -1,15 +1,12 @@
 -- A log that is held: what it stands for, and entries put behind those it has. Assumes nothing.
 use mathlib.Core.Path.{◌≡◌, refl, sym, ap, ap₂, ◌∙◌}
-use mathlib.Core.List.{List, [], ◌∷◌, ◌++◌, map, map-append}
-use Prim.Native.Nat.{ℕ, ◌+◌, ◌-◌, ◌*◌, ◌≤◌}
-use native.Mathlib.Nat.{add-zero}
+use mathlib.Core.List.{List, ◌++◌, map, map-append}
+use Prim.Native.Nat.{ℕ, ◌-◌, ◌≤◌}
 use native.Mathlib.Omega.{arith}
-use lib.ListN.{length, take, drop, replicate, length-map, length-append, length-replicate}
-use lib.Seq.{take_at, drop_at}
+use lib.ListN.{length, replicate, length-map, length-append, length-replicate}
 use Rattle.laws.specs.Slots.{slots, filled}
 use Rattle.laws.proofs.Fill.{seen}
 use Rattle.state.proofs.Behind.{behind}
-use Rattle.state.specs.declared.Entry.{Entry}
 use Rattle.state.specs.declared.Log.{Log}
 use Rattle.state.specs.View.{view_entry, entry_of, blank_entry, view_log, log_with, log_of}
 use Rattle.state.specs.Calls.{LogSound}

@@ -1,12 +1,11 @@
 -- The rows of agreements as a sign leaves them. Assumes nothing.
-use mathlib.Core.Path.{◌≡◌, refl, sym, ap, ap₂, ◌∙◌}
+use mathlib.Core.Path.{◌≡◌, refl, sym, ap, ◌∙◌}
 use mathlib.Core.Bool.{Bool, true, false, ◌&&◌, not}
 use mathlib.Core.List.{List, [], ◌∷◌}
 use Prim.Native.Nat.{ℕ, zero, suc, ◌-◌, ◌^◌}
 use lib.Dec.{leb}
 use lib.Bits.{bit_or}
 use lib.ListN.{get_or, set, get_or-map}
-use Rattle.model.specs.Things.{State}
 use Rattle.model.specs.Refusals.{user_good, first_that}
 use Rattle.model.specs.Run as run
 use Rattle.model.specs.Run.{step, or_refused, reply, with_signatures}

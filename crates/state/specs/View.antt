@@ -1,5 +1,4 @@
 -- The structs of this crate and the model: view (struct to model), ..Of (model to the one struct that stands for it), ..Sound.
-use Rattle.std.proofs.Math.Option.{Option, none, some}
 use Rattle.std.specs.Prelude.{List, [], map, ℕ, take, length}
 use Rattle.laws.specs.Slots.{slots, Is}
 use Rattle.path.specs.View.{asked}

@@ -7,10 +7,9 @@ use Rattle.laws.specs.Slots.{pick}
 use Rattle.model.specs.Things as things
 use Rattle.model.specs.Image.{number4}
 use Rattle.tables.specs.View.{value_of}
-use Rattle.words.specs.Numbers.{decimal, up_to, each, long_of}
+use Rattle.words.specs.Numbers.{decimal, up_to, each}
 use Rattle.words.specs.Words.{starts}
 use Rattle.words.specs.Hex.{all_hex, pairs}
-use Rattle.words.specs.declared.numbers.Long.{Long}
 use Rattle.words.specs.declared.values.Valued.{Valued}
 use Rattle.words.specs.declared.values.Valued.TheVariants as valued
 

@@ -1,5 +1,5 @@
 -- Words of a line, and parts of a word: what stands between separators.
-use Rattle.std.specs.Prelude.{Bool, true, false, ◌≡◌, List, [], ◌∷◌, ℕ, ◌+◌, ◌-◌, ◌≤◌, eqb, ltb, length, take, drop}
+use Rattle.std.specs.Prelude.{Bool, false, ◌≡◌, List, [], ◌∷◌, ℕ, ◌+◌, ◌-◌, ◌≤◌, eqb, ltb, length, take, drop}
 use Rattle.laws.specs.Slots.{pick, same_bytes}
 
 abbrev pub on_first : ℕ → List (List ℕ) → List (List ℕ)

@@ -2,14 +2,12 @@
 use borrow.Author.Rules.{rules}
 use mathlib.Core.Path.{◌≡◌, sym, ◌∙◌}
 use mathlib.Core.List.{◌∷◌}
-use Prim.Native.Nat.{◌+◌, ◌-◌, ◌≤◌}
+use Prim.Native.Nat.{◌+◌}
 use lib.ListN.{drop, get_or}
-use Rattle.laws.proofs.Fill.{held_room, held_each, held_next, row_end}
-use Rattle.model.specs.Moves.{child_step}
-use Rattle.path.specs.View.{steps}
+use Rattle.laws.proofs.Fill.{held_room, held_each, held_next}
 use Rattle.tables.specs.View.{view_node, view_nodes, no_node, NodeSound}
 use Rattle.tables.proofs.Rows.{node_path, nodes_held}
-use Rattle.tables.proofs.Asked.{Counts, count_begin, count_hit, count_miss, count_done}
+use Rattle.tables.proofs.Asked.{count_begin, count_hit, count_miss}
 use Rattle.counts.proofs.children_in.Goals as goal
 use Rattle.counts.proofs.children_in.Goals.{In-loop-i}
 

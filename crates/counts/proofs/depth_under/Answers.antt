@@ -6,10 +6,9 @@ use mathlib.Core.List.{◌∷◌}
 use Prim.Native.Nat.{◌+◌, ◌-◌, ◌≤◌, max}
 use native.Mathlib.Omega.{arith}
 use lib.ListN.{length, drop, get_or}
-use Rattle.laws.proofs.Fill.{held_room, held_each, held_next, row_end}
-use Rattle.path.specs.Address.{under, off}
+use Rattle.laws.proofs.Fill.{held_room, held_each, held_next}
+use Rattle.path.specs.Address.{under}
 use Rattle.path.specs.View.{steps}
-use Rattle.model.specs.Moves.{carried, deepest}
 use Rattle.tables.specs.View.{view_node, view_nodes, no_node, NodeSound}
 use Rattle.tables.proofs.Rows.{node_path, nodes_held}
 use Rattle.tables.proofs.Asked.{below_size, deep_hit, deep_miss}

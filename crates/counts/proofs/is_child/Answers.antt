@@ -1,5 +1,4 @@
 -- `counts::is_child` meets its contract: one step longer than q, and below it. Assumes nothing.
-use borrow.Author.Rules.{rules}
 use mathlib.Core.Path.{◌≡◌, sym, ◌∙◌}
 use native.Mathlib.Omega.{arith}
 use lib.ListN.{length}

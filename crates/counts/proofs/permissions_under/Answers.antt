@@ -2,15 +2,13 @@
 use borrow.Author.Rules.{rules}
 use mathlib.Core.Path.{◌≡◌, sym, ◌∙◌}
 use mathlib.Core.List.{◌∷◌}
-use Prim.Native.Nat.{◌+◌, ◌-◌, ◌≤◌}
+use Prim.Native.Nat.{◌+◌}
 use lib.ListN.{drop, get_or}
-use Rattle.laws.proofs.Fill.{held_room, held_each, held_next, row_end}
-use Rattle.path.specs.Address.{off}
-use Rattle.model.specs.Moves.{carry}
+use Rattle.laws.proofs.Fill.{held_room, held_each, held_next}
 use Rattle.path.specs.View.{steps}
 use Rattle.tables.specs.View.{view_permission, view_permissions, no_permission, PermissionSound}
 use Rattle.tables.proofs.Rows.{permission_path, permissions_held}
-use Rattle.tables.proofs.Asked.{Counts, count_begin, count_hit, count_miss, count_done, off_there}
+use Rattle.tables.proofs.Asked.{count_begin, count_hit, count_miss, off_there}
 use Rattle.counts.proofs.permissions_under.Goals as goal
 use Rattle.counts.proofs.permissions_under.Goals.{In-loop-i}
 

@@ -1,16 +1,10 @@
 -- `counts::permissions_under` meets its contract: it counts the rows at or below q. Assumes nothing.
-use borrow.Author.Rules.{rules}
-use mathlib.Core.Path.{◌≡◌, sym, ◌∙◌}
-use mathlib.Core.List.{◌∷◌}
-use Prim.Native.Nat.{◌+◌, ◌-◌, ◌≤◌}
-use lib.ListN.{drop, get_or}
-use Rattle.laws.proofs.Fill.{held_room, held_each, held_next, row_end}
+use Prim.Native.Nat.{◌-◌, ◌≤◌}
 use Rattle.path.specs.Address.{off}
 use Rattle.model.specs.Moves.{carry}
 use Rattle.path.specs.View.{steps}
-use Rattle.tables.specs.View.{view_permission, view_permissions, no_permission, PermissionSound}
-use Rattle.tables.proofs.Rows.{permission_path, permissions_held}
-use Rattle.tables.proofs.Asked.{Counts, count_begin, count_hit, count_miss, count_done, off_there}
+use Rattle.tables.specs.View.{view_permissions}
+use Rattle.tables.proofs.Asked.{Counts}
 use Rattle.counts.proofs.permissions_under.Given as goal
 
 abbrev pub invariant-loop-i : goal.invariant-loop-i

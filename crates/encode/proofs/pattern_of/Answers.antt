@@ -1,5 +1,4 @@
 -- `encode::pattern_of` meets its contract: a reading that equals itself is a number. Assumes nothing.
-use borrow.Author.Rules.{rules}
 use Rattle.encode.proofs.Bits.{nan_pattern, equal_no_nan}
 use Rattle.encode.proofs.pattern_of.Goals as goal
 

@@ -1,5 +1,4 @@
 -- `encode::put4` meets its contract: the two halves, one behind the other. Assumes nothing.
-use borrow.Author.Rules.{rules}
 use Prim.Native.Nat.{◌/◌, ◌%◌}
 use native.Mathlib.Omega.{arith}
 use Rattle.laws.proofs.Put.{then}

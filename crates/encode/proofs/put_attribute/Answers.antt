@@ -1,5 +1,4 @@
 -- `encode::put_attribute` meets its contract: the front, the value and zeros, one behind the other. Assumes nothing.
-use borrow.Author.Rules.{rules}
 use mathlib.Core.Path.{ap, ◌∙◌}
 use mathlib.Core.List.{◌++◌, append_assoc}
 use Prim.Native.Nat.{ℕ, ◌+◌}

@@ -1,10 +1,9 @@
 -- `encode::put_front` meets its contract: kind, path, name and six bytes, one behind the other. Assumes nothing.
-use borrow.Author.Rules.{rules}
 use mathlib.Core.List.{[], ◌∷◌, ◌++◌}
 use mathlib.Core.Path.{refl}
 use Prim.Native.Nat.{◌+◌}
 use native.Mathlib.Omega.{arith}
-use lib.ListN.{set, length-set}
+use lib.ListN.{set}
 use Rattle.laws.proofs.Put.{run, then}
 use Rattle.path.specs.Bytes.{step_bytes}
 use Rattle.path.specs.View.{steps}

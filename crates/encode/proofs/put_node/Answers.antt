@@ -1,5 +1,4 @@
 -- `encode::put_node` meets its contract: the front and zeros, one behind the other. Assumes nothing.
-use borrow.Author.Rules.{rules}
 use Prim.Native.Nat.{◌+◌}
 use native.Mathlib.Omega.{arith}
 use lib.ListN.{replicate}

@@ -1,5 +1,4 @@
 -- `encode::put_permission` meets its contract: the front and the terms, one behind the other. Assumes nothing.
-use borrow.Author.Rules.{rules}
 use mathlib.Core.List.{◌++◌}
 use Prim.Native.Nat.{◌+◌}
 use native.Mathlib.Omega.{arith}

@@ -1,8 +1,5 @@
 -- `encode::put_six` meets its contract: six stores. Assumes nothing.
-use borrow.Author.Rules.{rules}
 use mathlib.Core.List.{[], ◌∷◌}
-use native.Mathlib.Omega.{arith}
-use lib.ListN.{length-set}
 use Rattle.laws.proofs.Put.{run}
 use Rattle.encode.proofs.put_six.Goals as goal
 

@@ -1,5 +1,4 @@
 -- `encode::put_terms` meets its contract: the times, messages and agreements, one behind the other. Assumes nothing.
-use borrow.Author.Rules.{rules}
 use mathlib.Core.List.{◌++◌}
 use native.Mathlib.Omega.{arith}
 use mir.Syntax.{w64}

@@ -1,12 +1,11 @@
 -- `encode::put_zeros` meets its contract. The loop’s invariant: i zeros are put. Assumes nothing.
 use borrow.Author.Rules.{rules}
-use mathlib.Core.Path.{◌≡◌, ap, ◌∙◌}
-use mathlib.Core.List.{List}
-use Prim.Native.Nat.{ℕ, ◌+◌, ◌-◌, ◌≤◌}
+use mathlib.Core.Path.{ap, ◌∙◌}
+use Prim.Native.Nat.{ℕ, ◌+◌}
 use native.Mathlib.Omega.{arith}
-use lib.ListN.{length, replicate, length-replicate, replicate-append-replicate}
+use lib.ListN.{replicate, length-replicate, replicate-append-replicate}
 use Rattle.laws.specs.Slots.{put}
-use Rattle.laws.proofs.Put.{put_none, put_length, put_next}
+use Rattle.laws.proofs.Put.{put_next}
 use Rattle.encode.proofs.put_zeros.Goals as goal
 
 pub loop-i-preserved : goal.loop-i-preserved

@@ -1,5 +1,5 @@
 -- `grants::cover_in` meets its contract: the search begins at the object's place and stops at the first permission of the object that covers. Assumes nothing.
-use Prim.Native.Nat.{◌+◌, ◌-◌, ◌/◌, ◌<◌, ◌≤◌, ℕ}
+use Prim.Native.Nat.{◌+◌, ◌-◌, ◌/◌, ◌<◌, ℕ}
 use Rattle.grants.specs.View.{view_subject}
 use Rattle.laws.proofs.Fill.{held_each, held_room}
 use Rattle.model.specs.Decide as model
@@ -7,7 +7,7 @@ use Rattle.laws.proofs.Search.{place_most, row_side}
 use Rattle.path.specs.View.{steps}
 use Rattle.tables.proofs.Places.{permissions_searched}
 use Rattle.tables.proofs.Rows.{permission_path, permissions_held}
-use Rattle.tables.proofs.Walk.{Left, at_place, hit, miss, other, past_end}
+use Rattle.tables.proofs.Walk.{at_place, hit, miss, other}
 use Rattle.tables.specs.Places.{permission_place}
 use Rattle.tables.specs.View.{no_permission, view_grant, view_permissions}
 use borrow.Author.Rules.{rules}

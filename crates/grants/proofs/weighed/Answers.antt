@@ -1,11 +1,10 @@
 -- `grants::weighed` meets its contract: the walk begins at the object's place, compares each of its permissions with the one, and ends at the first row of another object. Assumes nothing.
-use Prim.Native.Nat.{◌+◌, ◌-◌, ◌/◌, ◌<◌, ◌≤◌, ℕ}
-use Rattle.grants.proofs.Gather.{Gathers, gather_all, gather_end, gather_other, gather_row}
-use Rattle.grants.proofs.Told.{weights_from, weights_end, weights_next}
-use Rattle.grants.specs.View.{view_subject, weights_of}
+use Prim.Native.Nat.{◌+◌, ◌-◌, ◌/◌, ◌<◌, ℕ}
+use Rattle.grants.proofs.Gather.{gather_all, gather_other, gather_row}
+use Rattle.grants.proofs.Told.{weights_from, weights_next}
+use Rattle.grants.specs.View.{view_subject}
 use Rattle.laws.proofs.Fill.{held_each, held_room}
 use Rattle.laws.proofs.Search.{place_most, row_side}
-use Rattle.model.specs.Moves.{permissions_in}
 use Rattle.path.specs.View.{steps}
 use Rattle.tables.proofs.Places.{permissions_searched}
 use Rattle.tables.proofs.Rows.{permission_path, permissions_held}

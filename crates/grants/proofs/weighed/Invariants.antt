@@ -1,23 +1,12 @@
 -- `grants::weighed` meets its contract: the walk begins at the object's place, compares each of its permissions with the one, and ends at the first row of another object. Assumes nothing.
-use Prim.Native.Nat.{◌+◌, ◌-◌, ◌/◌, ◌<◌, ◌≤◌, ℕ}
-use Rattle.grants.proofs.Gather.{Gathers, gather_all, gather_end, gather_other, gather_row}
-use Rattle.grants.proofs.Told.{weights_from, weights_end, weights_next}
+use Prim.Native.Nat.{◌-◌, ◌≤◌}
+use Rattle.grants.proofs.Gather.{Gathers}
+use Rattle.grants.proofs.Told.{weights_from}
 use Rattle.grants.specs.View.{view_subject, weights_of}
-use Rattle.laws.proofs.Fill.{held_each, held_room}
-use Rattle.laws.proofs.Search.{place_most, row_side}
 use Rattle.model.specs.Moves.{permissions_in}
 use Rattle.path.specs.View.{steps}
-use Rattle.tables.proofs.Places.{permissions_searched}
-use Rattle.tables.proofs.Rows.{permission_path, permissions_held}
 use Rattle.tables.specs.Places.{permission_place}
-use Rattle.tables.specs.View.{no_permission, view_grant, view_permissions}
-use borrow.Author.Rules.{rules}
-use borrow.Author.Tests.{ltb-false, ltb-true}
-use lib.Dec.{ltb}
-use lib.ListN.{get_or}
-use mathlib.Core.Bool.{false, ◌||◌}
-use mathlib.Core.Path.{◌∙◌, ◌≡◌, sym}
-use native.Mathlib.Omega.{arith}
+use Rattle.tables.specs.View.{view_grant, view_permissions}
 use Rattle.grants.proofs.weighed.Given as goal
 
 abbrev pub invariant-loop-i : goal.invariant-loop-i

@@ -1,5 +1,5 @@
 -- `lookups::attribute_in` meets its contract: the place of the object is between lo and hi; the row there is the object's, or none is. Assumes nothing.
-use Prim.Native.Nat.{◌+◌, ◌-◌, ◌/◌, ◌<◌, ◌≤◌, ℕ}
+use Prim.Native.Nat.{◌+◌, ◌-◌, ◌/◌, ◌<◌, ℕ}
 use Rattle.laws.proofs.Fill.{held_each, held_next, held_room, row_end}
 use Rattle.laws.proofs.Search.{place_most, row_side, rows_from, rows_other}
 use Rattle.path.specs.Address.{same}

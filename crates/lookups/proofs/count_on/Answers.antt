@@ -1,11 +1,11 @@
 -- `lookups::count_on` meets its contract: it counts the rows at p, which begin at its place. Assumes nothing.
-use Prim.Native.Nat.{◌+◌, ◌-◌, ◌/◌, ◌<◌, ◌≤◌, ℕ}
-use Rattle.laws.proofs.Fill.{held_each, held_next, held_room, row_end}
+use Prim.Native.Nat.{◌+◌, ◌-◌, ◌/◌, ◌<◌, ℕ}
+use Rattle.laws.proofs.Fill.{held_each, held_next, held_room}
 use Rattle.laws.proofs.Search.{place_most, row_side, rows_from, rows_other}
 use Rattle.laws.specs.Sorted.{move}
 use Rattle.model.specs.Moves.{at}
 use Rattle.path.specs.View.{steps}
-use Rattle.tables.proofs.Asked.{Counts, at_there, count_done, count_hit}
+use Rattle.tables.proofs.Asked.{at_there, count_hit}
 use Rattle.tables.proofs.Places.{at_path, attributes_by_path}
 use Rattle.tables.proofs.Rows.{attribute_path, attributes_held}
 use Rattle.tables.specs.Places.{place_of}

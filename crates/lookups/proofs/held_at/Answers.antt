@@ -1,11 +1,10 @@
 -- `lookups::held_at` meets its contract: the walk begins at the node's place, looks at each of its attributes, and ends at the first row of another node. Assumes nothing.
-use Prim.Native.Nat.{◌+◌, ◌-◌, ◌/◌, ◌<◌, ◌≤◌, ℕ}
+use Prim.Native.Nat.{◌+◌, ◌-◌, ◌/◌, ◌<◌, ℕ}
 use Rattle.laws.proofs.Fill.{held_each, held_room}
 use Rattle.laws.proofs.Search.{place_most, row_side}
 use Rattle.laws.specs.Sorted.{move}
-use Rattle.lookups.proofs.Gather.{Gathers, gather_all, gather_end, gather_other, gather_row}
-use Rattle.lookups.proofs.Told.{held_from, held_begin, held_end, held_turn}
-use Rattle.lookups.specs.View.{held_in}
+use Rattle.lookups.proofs.Gather.{gather_all, gather_other, gather_row}
+use Rattle.lookups.proofs.Told.{held_from, held_begin, held_turn}
 use Rattle.model.specs.Moves.{at}
 use Rattle.path.specs.View.{steps}
 use Rattle.tables.proofs.Places.{attributes_by_path}

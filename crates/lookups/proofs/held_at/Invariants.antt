@@ -1,24 +1,11 @@
 -- `lookups::held_at` meets its contract: the walk begins at the node's place, looks at each of its attributes, and ends at the first row of another node. Assumes nothing.
-use Prim.Native.Nat.{◌+◌, ◌-◌, ◌/◌, ◌<◌, ◌≤◌, ℕ}
-use Rattle.laws.proofs.Fill.{held_each, held_room}
-use Rattle.laws.proofs.Search.{place_most, row_side}
-use Rattle.laws.specs.Sorted.{move}
-use Rattle.lookups.proofs.Gather.{Gathers, gather_all, gather_end, gather_other, gather_row}
-use Rattle.lookups.proofs.Told.{held_from, held_begin, held_end, held_turn}
+use Prim.Native.Nat.{◌-◌, ◌≤◌}
+use Rattle.lookups.proofs.Gather.{Gathers}
+use Rattle.lookups.proofs.Told.{held_from}
 use Rattle.lookups.specs.View.{held_in}
-use Rattle.model.specs.Moves.{at}
 use Rattle.path.specs.View.{steps}
-use Rattle.tables.proofs.Places.{attributes_by_path}
-use Rattle.tables.proofs.Rows.{attribute_path, attributes_held}
 use Rattle.tables.specs.Places.{place_of}
-use Rattle.tables.specs.View.{no_attribute, view_attribute, view_attributes}
-use Rattle.tables.specs.declared.Found.TheVariants.{Absent}
-use borrow.Author.Rules.{rules}
-use borrow.Author.Tests.{ltb-false, ltb-true}
-use lib.Dec.{ltb}
-use lib.ListN.{get_or}
-use mathlib.Core.Path.{◌∙◌, ◌≡◌, sym}
-use native.Mathlib.Omega.{arith}
+use Rattle.tables.specs.View.{view_attributes}
 use Rattle.lookups.proofs.held_at.Given as goal
 
 abbrev pub invariant-loop-i : goal.invariant-loop-i

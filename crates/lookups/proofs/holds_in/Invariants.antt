@@ -1,20 +1,10 @@
 -- `lookups::holds_in` meets its contract: the search begins at the object's place and stops at the first permission of the object that is equal. Assumes nothing.
-use Prim.Native.Nat.{◌+◌, ◌-◌, ◌/◌, ◌<◌, ◌≤◌, ℕ}
-use Rattle.laws.proofs.Fill.{held_each, held_room}
-use Rattle.model.specs.Moves.{holds, same_permission}
-use Rattle.laws.proofs.Search.{place_most, row_side}
+use Prim.Native.Nat.{◌-◌, ◌≤◌}
+use Rattle.model.specs.Moves.{holds}
 use Rattle.path.specs.View.{steps}
-use Rattle.tables.proofs.Places.{permissions_searched}
-use Rattle.tables.proofs.Rows.{permission_path, permissions_held}
-use Rattle.tables.proofs.Walk.{Left, at_place, hit, miss, other, past_end}
+use Rattle.tables.proofs.Walk.{Left}
 use Rattle.tables.specs.Places.{permission_place}
-use Rattle.tables.specs.View.{no_permission, view_grant, view_permissions}
-use borrow.Author.Rules.{rules}
-use borrow.Author.Tests.{ltb-false, ltb-true}
-use lib.Dec.{ltb}
-use mathlib.Core.Bool.{true}
-use mathlib.Core.Path.{◌∙◌, ◌≡◌, refl, sym}
-use native.Mathlib.Omega.{arith}
+use Rattle.tables.specs.View.{view_grant, view_permissions}
 use Rattle.lookups.proofs.holds_in.Given as goal
 
 abbrev pub invariant-loop-i : goal.invariant-loop-i

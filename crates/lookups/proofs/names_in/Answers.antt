@@ -1,11 +1,10 @@
 -- `lookups::names_in` meets its contract: the names of the rows at p, which begin at its place, are stored behind one another. Assumes nothing.
-use Prim.Native.Nat.{◌+◌, ◌-◌, ◌/◌, ◌<◌, ◌≤◌, ℕ}
-use Rattle.laws.proofs.Fill.{Fills, begin, done, held_each, held_next, held_room, instead, row_end, turn}
+use Prim.Native.Nat.{◌+◌, ◌-◌, ◌/◌, ◌<◌, ℕ}
+use Rattle.laws.proofs.Fill.{begin, done, held_each, held_next, held_room, instead, turn}
 use Rattle.laws.proofs.Search.{place_most, row_side, rows_from, rows_other}
 use Rattle.laws.specs.Slots.{slots}
 use Rattle.laws.specs.Sorted.{move}
 use Rattle.model.specs.Moves.{at}
-use Rattle.model.specs.Things.{Attribute}
 use Rattle.path.specs.Address.{same}
 use Rattle.path.specs.View.{steps}
 use Rattle.tables.proofs.Asked.{Counts, at_there, count_hit}
@@ -13,16 +12,15 @@ use Rattle.tables.proofs.Places.{at_path, attributes_by_path}
 use Rattle.tables.proofs.Rows.{attribute_path, attributes_held}
 use Rattle.tables.specs.Places.{place_of}
 use Rattle.tables.specs.View.{AttributeSound, no_attribute, view_attribute, view_attributes}
-use Rattle.tables.specs.declared.Names.{Names}
 use borrow.Author.Rules.{rules}
 use borrow.Author.Tests.{ltb-false, ltb-true}
 use lib.Dec.{ltb}
 use lib.ListN.{drop, get_or, length, length-map}
 use mathlib.Core.Bool.{true}
-use mathlib.Core.List.{List, [], ◌∷◌, map}
+use mathlib.Core.List.{[], ◌∷◌, map}
 use mathlib.Core.Path.{◌∙◌, ◌≡◌, ap, refl, sym}
 use native.Mathlib.Omega.{arith}
-use Rattle.lookups.proofs.names_in.Invariants.{names_with, name_of, whole}
+use Rattle.lookups.proofs.names_in.Invariants.{names_with, name_of}
 use Rattle.lookups.proofs.names_in.Goals as goal
 use Rattle.lookups.proofs.names_in.Goals.{After-is_before, In-loop-i, In-loop-i-2, Then-is_same}
 

@@ -1,8 +1,5 @@
 -- `parse::all_zero` meets its contract. The loop's invariant: the bytes not yet seen decide. Assumes nothing.
-use mathlib.Core.Path.{◌≡◌, refl, sym, ◌∙◌}
-use Prim.Native.Nat.{◌-◌}
-use borrow.Author.Rules.{rules}
-use Rattle.parse.specs.Fields.{zeros}
+use mathlib.Core.Path.{sym, ◌∙◌}
 use Rattle.parse.proofs.Zeros.{zeros_more, zeros_stop, zeros_end}
 use Rattle.parse.proofs.all_zero.Goals as goal
 

@@ -1,9 +1,7 @@
 -- `parse::all_zero` meets its contract. The loop's invariant: the bytes not yet seen decide. Assumes nothing.
-use mathlib.Core.Path.{◌≡◌, refl, sym, ◌∙◌}
+use mathlib.Core.Path.{◌≡◌}
 use Prim.Native.Nat.{◌-◌}
-use borrow.Author.Rules.{rules}
 use Rattle.parse.specs.Fields.{zeros}
-use Rattle.parse.proofs.Zeros.{zeros_more, zeros_stop, zeros_end}
 use Rattle.parse.proofs.all_zero.Given as goal
 
 abbrev pub invariant-loop-i : goal.invariant-loop-i

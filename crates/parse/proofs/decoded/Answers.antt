@@ -1,7 +1,6 @@
 -- `parse::decoded` meets its contract: by path and kind. Assumes nothing.
 use mathlib.Core.Path.{◌∙◌}
 use native.Mathlib.Omega.{arith}
-use borrow.Author.Rules.{rules}
 use borrow.Author.Tests.{not-true, not-false}
 use Rattle.parse.proofs.Views.{node_view, attribute_view, permission_view, bad_view, pathless_view}
 use Rattle.parse.proofs.decoded.Goals as goal

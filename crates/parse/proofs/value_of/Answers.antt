@@ -1,10 +1,7 @@
 -- `parse::value_of` meets its contract: by kind, and the patterns of NaN and the infinities are no reading. Assumes nothing.
-use mathlib.Core.Path.{sym, ap, ◌∙◌}
-use Prim.Native.Nat.{ℕ}
-use borrow.Author.Rules.{rules}
-use Rattle.parse.specs.Fields.{value_from}
+use mathlib.Core.Path.{sym, ap}
 use Rattle.parse.specs.View.{valued_of}
-use Rattle.parse.proofs.Readings.{above_not, below_number, other_kind, no_reading, is_reading}
+use Rattle.parse.proofs.Readings.{above_not, below_number, no_reading}
 use Rattle.parse.proofs.value_of.Goals as goal
 
 pub returns-then-bits-gt2139095040 : goal.returns-then-bits-gt2139095040

@@ -1,5 +1,4 @@
 -- `path::child_of` meets its contract: a digit more, and the length is one more. Assumes nothing.
-use borrow.Author.Rules.{rules}
 use mathlib.Core.Path.{refl, ap, ◌∙◌}
 use mathlib.Core.List.{[], ◌∷◌}
 use Prim.Native.Nat.{◌+◌, ◌-◌, ◌*◌, ◌^◌}
@@ -7,8 +6,8 @@ use native.Mathlib.Omega.{arith}
 use lib.ListN.{length-append}
 use Rattle.path.specs.Address.{child, in_depth}
 use Rattle.path.specs.View.{steps}
-use Rattle.path.proofs.Parts.{in_depth_fits, in_depth_deep}
-use Rattle.path.proofs.Structs.{facts, there, gone}
+use Rattle.path.proofs.Parts.{in_depth_fits}
+use Rattle.path.proofs.Structs.{facts, there}
 use Rattle.path.proofs.Number.{placed_small}
 use Rattle.path.proofs.Steps.{child_path}
 use Rattle.path.proofs.child_of.Goals as goal

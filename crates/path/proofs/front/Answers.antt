@@ -1,5 +1,4 @@
 -- `path::front` meets its contract: the high digits. Assumes nothing.
-use borrow.Author.Rules.{rules}
 use Rattle.path.proofs.Number.{front_is}
 use Rattle.path.proofs.front.Goals as goal
 

@@ -1,10 +1,9 @@
 -- `path::is_beside` meets its contract: all but the last step are compared as numbers. Assumes nothing.
-use borrow.Author.Rules.{rules}
 use mathlib.Core.Path.{ap₂, sym, ◌∙◌}
 use native.Mathlib.Omega.{arith}
 use lib.Dec.{eqb}
 use Rattle.path.specs.View.{steps}
-use Rattle.path.proofs.Parts.{beside_short, beside_root}
+use Rattle.path.proofs.Parts.{beside_short}
 use Rattle.path.proofs.Number.{front_beside}
 use Rattle.path.proofs.is_beside.Goals as goal
 

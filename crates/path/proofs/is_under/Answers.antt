@@ -1,5 +1,4 @@
 -- `path::is_under` meets its contract: the first steps are compared as numbers. Assumes nothing.
-use borrow.Author.Rules.{rules}
 use mathlib.Core.Path.{ap, ap₂, ◌∙◌}
 use lib.Dec.{eqb}
 use Rattle.path.specs.Packed.{pack}

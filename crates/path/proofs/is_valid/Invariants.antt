@@ -1,16 +1,9 @@
 -- `path::is_valid` meets its contract. The loop’s invariant: the steps are good exactly if those not yet seen are. Assumes nothing.
-use borrow.Author.Rules.{rules}
-use borrow.Author.Tests.{le-leb, lt-leb}
-use mathlib.Core.Bool.{◌&&◌}
-use mathlib.Core.Path.{◌≡◌, sym, ap, ◌∙◌}
-use Prim.Native.Nat.{ℕ, ◌+◌, ◌-◌, ◌≤◌}
-use native.Mathlib.Omega.{arith}
-use lib.Dec.{leb}
-use lib.ListN.{length, take, drop, get_or}
-use Rattle.laws.proofs.Fill.{list_next, list_end}
+use mathlib.Core.Path.{◌≡◌}
+use Prim.Native.Nat.{◌-◌, ◌≤◌}
+use lib.ListN.{take, drop}
 use Rattle.path.specs.Address.{valid, steps_good}
 use Rattle.path.specs.View.{asked}
-use Rattle.path.proofs.Structs.{asked_deep, asked_good}
 use Rattle.path.proofs.is_valid.Given as goal
 
 abbrev pub invariant-loop-i : goal.invariant-loop-i

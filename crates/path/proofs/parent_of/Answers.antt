@@ -1,5 +1,4 @@
 -- `path::parent_of` meets its contract: the last digit goes, and the length is one less. Assumes nothing.
-use borrow.Author.Rules.{rules}
 use native.Mathlib.Omega.{arith}
 use Rattle.path.proofs.Steps.{root_is, parent_key, parent_path}
 use Rattle.path.proofs.parent_of.Goals as goal

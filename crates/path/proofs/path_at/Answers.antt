@@ -4,12 +4,12 @@ use borrow.Author.Tests.{not-true, not-false}
 use mathlib.Core.Bool.{true, false, ◌&&◌}
 use mathlib.Core.List.{◌∷◌}
 use mathlib.Core.Path.{◌≡◌, refl, sym, ap, subst, ◌∙◌}
-use Prim.Native.Nat.{◌+◌, ◌-◌, ◌≤◌}
+use Prim.Native.Nat.{◌+◌, ◌-◌}
 use native.Mathlib.Numerals.{unary_clauses}
 use native.Mathlib.Omega.{arith}
 use lib.ListN.{length, take, drop, get_or, drop_of_length-le}
 use Rattle.path.specs.Bytes.{read_steps, step_fits}
-use Rattle.path.proofs.Bytes.{Taken, taken_none, taken_next, taken_bound, steps_fit, fit_next, read_deep, read_none, read_some, read_path_lem, seven, six_length, six_read, six_next}
+use Rattle.path.proofs.Bytes.{Taken, taken_none, taken_next, taken_bound, steps_fit, fit_next, read_none, read_some, read_path_lem, seven, six_length, six_read, six_next}
 use Rattle.path.proofs.Structs.{there, gone}
 use Rattle.path.proofs.path_at.Goals as goal
 use Rattle.path.proofs.path_at.Goals.{Else-len-gt6, In-loop-i}

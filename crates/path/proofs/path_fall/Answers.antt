@@ -1,12 +1,11 @@
 -- `path::path_fall` meets its contract: the step is one digit, and gets one less. Assumes nothing.
-use borrow.Author.Rules.{rules}
 use borrow.Author.Tests.{lt-ltb, le-ltb, not-true, not-false}
 use mathlib.Core.Bool.{true}
 use mathlib.Core.Path.{◌≡◌, sym, ◌∙◌}
 use native.Mathlib.Omega.{arith}
 use Rattle.path.specs.Address.{beside, lower}
 use Rattle.path.specs.View.{steps}
-use Rattle.path.proofs.Steps.{path_stays, path_keeps, path_less, weight_in}
+use Rattle.path.proofs.Steps.{path_stays, path_keeps, path_less}
 use Rattle.path.proofs.path_fall.Goals as goal
 use Rattle.path.proofs.path_fall.Goals.{Else-not-is_beside}
 

@@ -1,5 +1,4 @@
 -- `path::path_off` meets its contract: the digits move up by as many as go. Assumes nothing.
-use borrow.Author.Rules.{rules}
 use borrow.Author.Tests.{not-true, not-false}
 use mathlib.Core.Bool.{true}
 use mathlib.Core.Path.{◌≡◌, refl, sym, ◌∙◌}

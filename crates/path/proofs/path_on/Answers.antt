@@ -1,5 +1,4 @@
 -- `path::path_on` meets its contract: the digits move down by as many as come. Assumes nothing.
-use borrow.Author.Rules.{rules}
 use mathlib.Core.Path.{refl}
 use Prim.Native.Nat.{◌*◌, ◌%◌, ◌^◌}
 use native.Mathlib.Nat.{div-le_self}
@@ -7,8 +6,8 @@ use native.Mathlib.Omega.{arith}
 use lib.ListN.{length-append}
 use Rattle.path.specs.Address.{on, in_depth}
 use Rattle.path.specs.View.{steps}
-use Rattle.path.proofs.Parts.{in_depth_fits, in_depth_deep}
-use Rattle.path.proofs.Structs.{facts, there, gone}
+use Rattle.path.proofs.Parts.{in_depth_fits}
+use Rattle.path.proofs.Structs.{facts, there}
 use Rattle.path.proofs.Steps.{on_path}
 use Rattle.path.proofs.path_on.Goals as goal
 

@@ -1,5 +1,4 @@
 -- `path::path_up` meets its contract: the step is one digit, and gets one more. Assumes nothing.
-use borrow.Author.Rules.{rules}
 use borrow.Author.Tests.{lt-leb, le-leb, not-true, not-false}
 use mathlib.Core.Bool.{true}
 use mathlib.Core.Path.{◌≡◌, sym, ◌∙◌}

@@ -1,5 +1,4 @@
 -- `path::placed` meets its contract: no bit is lost. Assumes nothing.
-use borrow.Author.Rules.{rules}
 use Rattle.path.proofs.Number.{placed_is}
 use Rattle.path.proofs.placed.Goals as goal
 

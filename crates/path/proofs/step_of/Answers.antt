@@ -1,11 +1,5 @@
 -- `path::step_of` meets its contract: digit 0 is the length, so that step i is digit i + 1. Assumes nothing.
-use borrow.Author.Rules.{rules}
-use mathlib.Core.Path.{ap, ◌∙◌}
-use mathlib.Core.List.{◌∷◌}
-use native.Mathlib.Numerals.{add-one}
 use native.Mathlib.Omega.{arith}
-use lib.ListN.{length, get_or}
-use Rattle.path.specs.View.{steps}
 use Rattle.path.proofs.Structs.{facts}
 use Rattle.path.proofs.step_of.Goals as goal
 

@@ -1,5 +1,4 @@
 -- `tables::blank_node` meets its contract: the root's path, and 0. Assumes nothing.
-use borrow.Author.Rules.{rules}
 use mathlib.Core.Path.{◌∙◌}
 use Rattle.tables.specs.View.{node_row}
 use Rattle.tables.proofs.Rows.{blank_path_lem}

@@ -1,5 +1,4 @@
 -- `tables::no_attributes` meets its contract: 256 blank rows. Assumes nothing.
-use borrow.Author.Rules.{rules}
 use mathlib.Core.Path.{ap}
 use lib.ListN.{replicate}
 use Rattle.tables.specs.View.{attributes_of, attributes_with}

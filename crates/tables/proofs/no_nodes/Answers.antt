@@ -1,5 +1,4 @@
 -- `tables::no_nodes` meets its contract: 64 blank rows. Assumes nothing.
-use borrow.Author.Rules.{rules}
 use mathlib.Core.Path.{ap}
 use lib.ListN.{replicate}
 use Rattle.tables.specs.View.{nodes_of, nodes_with}

@@ -1,5 +1,4 @@
 -- `tables::no_permissions` meets its contract: 128 blank rows. Assumes nothing.
-use borrow.Author.Rules.{rules}
 use mathlib.Core.Path.{ap}
 use lib.ListN.{replicate}
 use Rattle.tables.specs.View.{permissions_of, permissions_with}

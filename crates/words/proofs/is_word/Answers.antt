@@ -1,10 +1,5 @@
 -- `words::is_word` meets its contract. The loop's invariant: the bytes not yet seen decide. Assumes nothing.
-use mathlib.Core.Path.{◌≡◌, refl}
-use Prim.Native.Nat.{◌-◌}
-use lib.ListN.{length, drop}
-use Rattle.laws.specs.Slots.{same_bytes}
-use Rattle.words.proofs.Splits.{other_length, same_turn, same_stop, same_end}
-use borrow.Author.Rules.{rules}
+use Rattle.words.proofs.Splits.{other_length}
 use Rattle.words.proofs.is_word.Goals as goal
 
 pub returns-then-s-word : goal.returns-then-s-word

@@ -1,10 +1,8 @@
 -- `words::is_word` meets its contract. The loop's invariant: the bytes not yet seen decide. Assumes nothing.
-use mathlib.Core.Path.{◌≡◌, refl}
+use mathlib.Core.Path.{◌≡◌}
 use Prim.Native.Nat.{◌-◌}
 use lib.ListN.{length, drop}
 use Rattle.laws.specs.Slots.{same_bytes}
-use Rattle.words.proofs.Splits.{other_length, same_turn, same_stop, same_end}
-use borrow.Author.Rules.{rules}
 use Rattle.words.proofs.is_word.Given as goal
 
 abbrev pub invariant-loop-i : goal.invariant-loop-i

@@ -1,9 +1,5 @@
 -- `words::part_end` meets its contract. The loop's invariant: what was passed is the front of the first part. Assumes nothing.
-use mathlib.Core.Path.{◌≡◌}
-use Prim.Native.Nat.{◌-◌, ◌≤◌}
-use lib.ListN.{length, drop}
-use Rattle.words.specs.Words.{split, part}
-use Rattle.words.proofs.Splits.{ahead, parts_begin, parts_turn, parts_stop, parts_end}
+use Rattle.words.proofs.Splits.{parts_turn, parts_stop, parts_end}
 use borrow.Author.Rules.{rules}
 use Rattle.words.proofs.part_end.Goals as goal
 

@@ -3,8 +3,7 @@ use mathlib.Core.Path.{◌≡◌}
 use Prim.Native.Nat.{◌-◌, ◌≤◌}
 use lib.ListN.{length, drop}
 use Rattle.words.specs.Words.{split, part}
-use Rattle.words.proofs.Splits.{ahead, parts_begin, parts_turn, parts_stop, parts_end}
-use borrow.Author.Rules.{rules}
+use Rattle.words.proofs.Splits.{ahead}
 use Rattle.words.proofs.part_end.Given as goal
 
 abbrev pub invariant-loop-i : goal.invariant-loop-i

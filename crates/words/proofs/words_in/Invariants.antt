@@ -2,7 +2,6 @@
 use mathlib.Core.Path.{◌≡◌}
 use Prim.Native.Nat.{◌-◌, ◌≤◌}
 use lib.ListN.{length}
-use borrow.Author.Rules.{rules}
 use Rattle.words.proofs.words_in.Given as goal
 
 abbrev pub invariant-loop-n : goal.invariant-loop-n

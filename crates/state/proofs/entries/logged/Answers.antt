@@ -1,15 +1,14 @@
 -- `state::entries::logged` meets its contract: the messages still to come are stored behind the entries. Assumes nothing.
-use mathlib.Core.Path.{◌≡◌, refl, sym, ap, ◌∙◌}
-use mathlib.Core.List.{List, ◌++◌, map}
-use Prim.Native.Nat.{ℕ, ◌≤◌, ◌+◌, ◌-◌, ◌/◌}
+use mathlib.Core.Path.{ap, ◌∙◌}
+use mathlib.Core.List.{map}
+use Prim.Native.Nat.{◌+◌, ◌/◌}
 use native.Mathlib.Omega.{arith}
 use borrow.Author.Rules.{rules}
 use lib.ListN.{length, length-set}
 use Rattle.laws.specs.Slots.{filled}
-use Rattle.laws.proofs.Fill.{fill_turn, fill_end}
-use Rattle.model.specs.Decide.{members}
-use Rattle.state.specs.View.{entry_of, view_log, log_with, log_of}
-use Rattle.state.proofs.Messages.{coming, coming_in, coming_out, coming_end}
+use Rattle.laws.proofs.Fill.{fill_turn}
+use Rattle.state.specs.View.{entry_of, log_with}
+use Rattle.state.proofs.Messages.{coming, coming_in, coming_out}
 use Rattle.state.proofs.Logs.{log_full_lem, log_behind}
 use Rattle.state.proofs.entries.logged.Invariants.{entries_of}
 use Rattle.state.proofs.entries.logged.Goals as goal

@@ -1,16 +1,12 @@
 -- `state::entries::logged` meets its contract: the messages still to come are stored behind the entries. Assumes nothing.
-use mathlib.Core.Path.{◌≡◌, refl, sym, ap, ◌∙◌}
+use mathlib.Core.Path.{◌≡◌}
 use mathlib.Core.List.{List, ◌++◌, map}
-use Prim.Native.Nat.{ℕ, ◌≤◌, ◌+◌, ◌-◌, ◌/◌}
-use native.Mathlib.Omega.{arith}
-use borrow.Author.Rules.{rules}
-use lib.ListN.{length, length-set}
+use Prim.Native.Nat.{ℕ, ◌≤◌, ◌+◌, ◌-◌}
+use lib.ListN.{length}
 use Rattle.laws.specs.Slots.{filled}
-use Rattle.laws.proofs.Fill.{fill_turn, fill_end}
 use Rattle.model.specs.Decide.{members}
 use Rattle.state.specs.View.{entry_of, view_log, log_with, log_of}
-use Rattle.state.proofs.Messages.{coming, coming_in, coming_out, coming_end}
-use Rattle.state.proofs.Logs.{log_full_lem, log_behind}
+use Rattle.state.proofs.Messages.{coming}
 use Rattle.state.proofs.entries.logged.Given as goal
 
 -- the entries of these messages

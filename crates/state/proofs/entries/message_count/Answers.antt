@@ -1,11 +1,9 @@
 -- `state::entries::message_count` meets its contract: what is found and what is still to come are the set. Assumes nothing.
-use mathlib.Core.Path.{◌≡◌, refl, sym, ap, ◌∙◌}
-use Prim.Native.Nat.{◌≤◌, ◌+◌, ◌-◌}
+use mathlib.Core.Path.{ap}
 use native.Mathlib.Omega.{arith}
 use borrow.Author.Rules.{rules}
 use lib.ListN.{length}
-use Rattle.model.specs.Decide.{members}
-use Rattle.state.proofs.Messages.{coming, coming_in, coming_out, coming_end}
+use Rattle.state.proofs.Messages.{coming_in, coming_out}
 use Rattle.state.proofs.entries.message_count.Goals as goal
 
 pub loop-i-preserved-then-left-eq1 : goal.loop-i-preserved-then-left-eq1

@@ -1,11 +1,9 @@
 -- `state::entries::message_count` meets its contract: what is found and what is still to come are the set. Assumes nothing.
-use mathlib.Core.Path.{◌≡◌, refl, sym, ap, ◌∙◌}
+use mathlib.Core.Path.{◌≡◌}
 use Prim.Native.Nat.{◌≤◌, ◌+◌, ◌-◌}
-use native.Mathlib.Omega.{arith}
-use borrow.Author.Rules.{rules}
 use lib.ListN.{length}
 use Rattle.model.specs.Decide.{members}
-use Rattle.state.proofs.Messages.{coming, coming_in, coming_out, coming_end}
+use Rattle.state.proofs.Messages.{coming}
 use Rattle.state.proofs.entries.message_count.Given as goal
 
 abbrev pub invariant-loop-i : goal.invariant-loop-i

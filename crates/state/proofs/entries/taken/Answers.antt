@@ -1,14 +1,11 @@
 -- `state::entries::taken` meets its contract: all entries are written and the log is empty, or nothing changes. Assumes nothing.
 use mathlib.Core.Path.{◌≡◌, sym, ap, ◌∙◌}
-use mathlib.Core.Bool.{true, false}
 use mathlib.Core.List.{[]}
-use Prim.Native.Nat.{ℕ, ◌*◌}
+use Prim.Native.Nat.{◌*◌}
 use native.Mathlib.Omega.{arith}
-use borrow.Author.Rules.{rules}
 use borrow.Author.Tests.{lt-ltb, le-ltb}
 use lib.ListN.{length}
-use lib.Dec.{ltb}
-use Rattle.model.specs.Run.{short, log_bytes, written}
+use Rattle.model.specs.Run.{log_bytes}
 use Rattle.state.specs.declared.Log.{Log}
 use Rattle.state.specs.declared.Outcome.TheVariants.{Wrote}
 use Rattle.state.specs.View.{view_log, log_of, plain_of}

@@ -1,15 +1,14 @@
 -- `state::signatures::signed` meets its contract: the user's row is replaced, or nothing. Assumes nothing.
-use mathlib.Core.Path.{◌≡◌, refl, sym, ap, ◌∙◌}
-use Prim.Native.Nat.{ℕ, ◌-◌, ◌*◌, ◌^◌, ◌%◌, ◌≤◌, ◌<◌}
+use mathlib.Core.Path.{◌≡◌, ap, ◌∙◌}
+use Prim.Native.Nat.{ℕ, ◌-◌, ◌*◌, ◌^◌, ◌%◌, ◌≤◌}
 use native.Mathlib.Nat.{one-mul, mod-eq_of_lt, pow-le-pow_right}
 use native.Mathlib.Omega.{arith}
 use mathlib.Core.Bool.{true, ◌&&◌}
 use lib.Dec.{leb}
 use lib.Bits.{bit_or}
 use lib.ListN.{set, get_or}
-use borrow.Author.Rules.{rules}
 use Rattle.model.specs.Refusals.{user_good}
-use borrow.Author.Tests.{lt-leb, le-leb, lt-ltb, le-ltb}
+use borrow.Author.Tests.{lt-leb, le-leb}
 use Rattle.state.proofs.Signing.{sign_refused, sign_done}
 use Rattle.state.proofs.signatures.signed.Goals as goal
 

@@ -1,5 +1,4 @@
 -- `tables::order::attribute_before` meets its contract: by the keys of their paths, then by name, which decides. Assumes nothing.
-use borrow.Author.Rules.{rules}
 use mathlib.Core.Path.{◌∙◌}
 use lib.Dec.{ltb}
 use Rattle.path.specs.View.{steps}

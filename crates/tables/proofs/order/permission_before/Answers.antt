@@ -1,5 +1,4 @@
 -- `tables::order::permission_before` meets its contract: by the keys of their paths, then by name, then by the grant. Assumes nothing.
-use borrow.Author.Rules.{rules}
 use mathlib.Core.Bool.{Bool}
 use mathlib.Core.Path.{◌≡◌, sym, ◌∙◌}
 use Rattle.laws.specs.Order.{lex}

@@ -1,17 +1,8 @@
 -- `tables::place::first_at` meets its contract: the place of p is always between lo and hi. Assumes nothing.
-use borrow.Author.Rules.{rules}
-use borrow.Author.Tests.{ltb-true, ltb-false}
-use mathlib.Core.Path.{◌≡◌, sym, ◌∙◌}
-use Prim.Native.Nat.{ℕ, ◌+◌, ◌-◌, ◌/◌, ◌≤◌, ◌<◌}
-use lib.Dec.{ltb}
-use native.Mathlib.Omega.{arith}
-use Rattle.laws.proofs.Fill.{held_room, held_each}
-use Rattle.laws.proofs.Search.{place_most, row_side}
+use Prim.Native.Nat.{◌-◌, ◌≤◌}
 use Rattle.path.specs.View.{steps}
-use Rattle.tables.specs.View.{view_nodes, no_node}
+use Rattle.tables.specs.View.{view_nodes}
 use Rattle.tables.specs.Places.{place_of}
-use Rattle.tables.proofs.Rows.{node_path, nodes_held}
-use Rattle.tables.proofs.Places.{nodes_searched}
 use Rattle.tables.proofs.place.first_at.Given as goal
 
 abbrev pub invariant-loop-lo : goal.invariant-loop-lo

@@ -1,5 +1,4 @@
 -- `tables::place::object_before` meets its contract: by the keys of their paths, then by name. Assumes nothing.
-use borrow.Author.Rules.{rules}
 use mathlib.Core.Path.{◌∙◌}
 use lib.Dec.{ltb}
 use Rattle.tables.proofs.Compare.{lexed_or, keyed}

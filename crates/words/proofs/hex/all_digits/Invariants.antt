@@ -1,11 +1,8 @@
 -- `words::hex::all_digits` meets its contract. The loop's invariant: the bytes not yet seen decide. Assumes nothing.
-use mathlib.Core.Path.{◌≡◌, refl, sym, ◌∙◌}
+use mathlib.Core.Path.{◌≡◌}
 use Prim.Native.Nat.{◌-◌}
 use lib.ListN.{length, drop}
-use borrow.Author.Tests.{not-true, not-false}
 use Rattle.words.specs.Hex.{all_hex}
-use Rattle.words.proofs.Hexes.{hex_turn, hex_stop, hex_end}
-use borrow.Author.Rules.{rules}
 use Rattle.words.proofs.hex.all_digits.Given as goal
 
 abbrev pub invariant-loop-i : goal.invariant-loop-i

@@ -1,8 +1,7 @@
 -- `words::hex::hex_in` meets its contract. Assumes nothing.
 use mathlib.Core.Path.{sym, ◌∙◌}
-use borrow.Author.Tests.{not-true, not-false}
-use Rattle.words.proofs.Hexes.{ends_dash, ends_odd, ends_other, halves, ends_room, ends_bytes}
-use borrow.Author.Rules.{rules}
+use borrow.Author.Tests.{not-false}
+use Rattle.words.proofs.Hexes.{ends_room, ends_bytes}
 use Rattle.words.proofs.hex.hex_in.Goals as goal
 
 pub returns-then-out-n : goal.returns-then-out-n

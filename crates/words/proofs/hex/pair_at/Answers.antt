@@ -1,8 +1,7 @@
 -- `words::hex::pair_at` meets its contract. Assumes nothing.
-use Prim.Native.Nat.{◌+◌, ◌*◌}
+use Prim.Native.Nat.{◌+◌}
 use native.Mathlib.Omega.{arith}
 use Rattle.words.proofs.Hexes.{hex_at}
-use borrow.Author.Rules.{rules}
 use Rattle.words.proofs.hex.pair_at.Goals as goal
 
 pub worth-requires : goal.worth-requires

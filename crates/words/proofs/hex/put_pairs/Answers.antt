@@ -1,8 +1,8 @@
 -- `words::hex::put_pairs` meets its contract. The loop's invariant: what it must leave is what it has, with the pairs left from i on. Assumes nothing.
-use mathlib.Core.Path.{◌≡◌, refl, sym, ap, ◌∙◌}
-use Prim.Native.Nat.{◌+◌, ◌-◌, ◌*◌, ◌≤◌}
+use mathlib.Core.Path.{sym, ap, ◌∙◌}
+use Prim.Native.Nat.{◌+◌, ◌*◌}
 use native.Mathlib.Omega.{arith}
-use lib.ListN.{length, drop, set, length-set}
+use lib.ListN.{drop, set, length-set}
 use Rattle.laws.specs.Slots.{put}
 use Rattle.words.specs.Hex.{pairs}
 use Rattle.words.proofs.Hexes.{pair_turn, pair_end}

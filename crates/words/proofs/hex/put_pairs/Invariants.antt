@@ -1,12 +1,9 @@
 -- `words::hex::put_pairs` meets its contract. The loop's invariant: what it must leave is what it has, with the pairs left from i on. Assumes nothing.
-use mathlib.Core.Path.{◌≡◌, refl, sym, ap, ◌∙◌}
-use Prim.Native.Nat.{◌+◌, ◌-◌, ◌*◌, ◌≤◌}
-use native.Mathlib.Omega.{arith}
-use lib.ListN.{length, drop, set, length-set}
+use mathlib.Core.Path.{◌≡◌}
+use Prim.Native.Nat.{◌-◌, ◌*◌, ◌≤◌}
+use lib.ListN.{length, drop}
 use Rattle.laws.specs.Slots.{put}
 use Rattle.words.specs.Hex.{pairs}
-use Rattle.words.proofs.Hexes.{pair_turn, pair_end}
-use borrow.Author.Rules.{rules}
 use Rattle.words.proofs.hex.put_pairs.Given as goal
 
 abbrev pub invariant-loop-i : goal.invariant-loop-i

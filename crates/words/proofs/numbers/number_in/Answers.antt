@@ -1,11 +1,6 @@
 -- `words::numbers::number_in` meets its contract. The loop's invariant: the bytes not yet seen go on from the number so far. Assumes nothing.
-use mathlib.Core.Path.{◌≡◌, sym, ap, ◌∙◌}
-use Prim.Native.Nat.{◌-◌, ◌≤◌}
-use mathlib.Core.List.{[], ◌∷◌}
-use lib.ListN.{length, drop, get_or}
-use Rattle.words.specs.Numbers.{scan, decimal, up_to, number_of}
-use Rattle.words.proofs.Decimals.{none_there, begin, answered_fits, loop_turn, loop_stop, loop_end}
-use borrow.Author.Rules.{rules}
+use mathlib.Core.Path.{sym, ◌∙◌}
+use Rattle.words.proofs.Decimals.{loop_stop}
 use Rattle.words.proofs.numbers.number_in.Goals as goal
 
 pub returns-in-Bad : goal.returns-in-Bad

@@ -1,11 +1,8 @@
 -- `words::numbers::number_in` meets its contract. The loop's invariant: the bytes not yet seen go on from the number so far. Assumes nothing.
-use mathlib.Core.Path.{◌≡◌, sym, ap, ◌∙◌}
+use mathlib.Core.Path.{◌≡◌}
 use Prim.Native.Nat.{◌-◌, ◌≤◌}
-use mathlib.Core.List.{[], ◌∷◌}
-use lib.ListN.{length, drop, get_or}
-use Rattle.words.specs.Numbers.{scan, decimal, up_to, number_of}
-use Rattle.words.proofs.Decimals.{none_there, begin, answered_fits, loop_turn, loop_stop, loop_end}
-use borrow.Author.Rules.{rules}
+use lib.ListN.{length, drop}
+use Rattle.words.specs.Numbers.{scan, decimal, up_to}
 use Rattle.words.proofs.numbers.number_in.Given as goal
 
 abbrev pub invariant-loop-i : goal.invariant-loop-i

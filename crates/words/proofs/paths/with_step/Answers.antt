@@ -1,6 +1,5 @@
 -- `words::paths::with_step` meets its contract. Assumes nothing.
-use Rattle.words.proofs.Steps.{step_in, step_past}
-use borrow.Author.Rules.{rules}
+use Rattle.words.proofs.Steps.{step_in}
 use Rattle.words.proofs.paths.with_step.Goals as goal
 
 pub returns-then-i-lt6 : goal.returns-then-i-lt6

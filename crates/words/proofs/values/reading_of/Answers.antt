@@ -1,8 +1,6 @@
 -- `words::values::reading_of` meets its contract: an infinity less itself is no number. Assumes nothing.
-use mathlib.Core.Path.{refl}
 use lib.Ieee.{nan_bits, of_bits, sub, add, neg}
 use Rattle.words.proofs.Written.{above_nan, below_number}
-use borrow.Author.Rules.{rules}
 use Rattle.words.proofs.values.reading_of.Goals as goal
 
 pub float_from_bits-top : goal.float_from_bits-top
