@@ -21,7 +21,6 @@ use Rattle.model.specs.Run.{Question, bad_question, asker, may_ask, may_ask_in, 
 use Rattle.roundtrip.proofs.SaveLoad.{load_sound}
 use Rattle.tables.specs.declared.Owner.{Owner}
 use Rattle.tables.specs.declared.Owner.TheVariants.{Nobody, User}
-use Rattle.tables.specs.declared.Dossier.{Dossier}
 use Rattle.tables.specs.View.{view_dossier, DossierFits}
 use Rattle.tables.proofs.Rows.{view_dossier_lem}
 use Rattle.tables.proofs.Parts.{dossier_fits}

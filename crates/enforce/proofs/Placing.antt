@@ -14,7 +14,6 @@ use Rattle.model.specs.Image as images
 use Rattle.model.specs.Image.{bad, good, load_added}
 use Rattle.model.specs.Run as run
 use Rattle.roundtrip.proofs.Adding.{placed_sound}
-use Rattle.tables.specs.declared.Dossier.{Dossier}
 use Rattle.tables.specs.declared.Clipboard.{Clipboard}
 use Rattle.tables.specs.View.{view_dossier, dossier_of, DossierSound, view_clipboard, clipboard_of, ClipboardSound}
 use Rattle.tables.proofs.Rows.{view_dossier_lem, view_clipboard_lem}

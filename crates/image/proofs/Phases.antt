@@ -21,7 +21,7 @@ use Rattle.model.specs.Things as things
 use Rattle.model.specs.Things.{Row}
 use Rattle.model.specs.Decide.{clash_any}
 use Rattle.model.specs.Moves.{owner_in, attribute_in, names_in, permissions_in, object_at}
-use Rattle.model.specs.Image.{Record, good, node_record, attribute_record, permission_record, node_fits, attribute_fits, left, there}
+use Rattle.model.specs.Image.{good, node_record, attribute_record, permission_record, node_fits, attribute_fits, left, there}
 use Rattle.roundtrip.proofs.Found.{fits, fits_in, fits_out}
 use Rattle.tables.specs.declared.Nodes.{Nodes}
 use Rattle.tables.specs.declared.Attributes.{Attributes}

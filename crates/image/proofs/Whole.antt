@@ -9,7 +9,7 @@ use lib.ListN.{length}
 use borrow.Author.Tests.{eqb-true, ltb-false}
 use Rattle.laws.specs.Slots.{pick}
 use Rattle.path.proofs.Structs.{no}
-use Rattle.model.specs.Image.{accept, records, bad, good, scan, no_records, load}
+use Rattle.model.specs.Image.{accept, records, bad, scan, no_records, load}
 use Rattle.roundtrip.proofs.Images.{bad_length}
 use Rattle.tables.specs.declared.Nodes.{Nodes}
 use Rattle.tables.specs.declared.Attributes.{Attributes}

@@ -4,7 +4,6 @@ use mathlib.Core.Logic.{◌⊎◌, inl, inr, ⊎_elim}
 use mathlib.Core.Bool.{Bool, not}
 use mathlib.Core.Option.{none}
 use Prim.Native.Nat.{ℕ, ◌+◌, ◌≤◌}
-use native.Mathlib.Omega.{arith}
 use lib.Dec.{T, eqb, eqb→eq, T_not}
 use lib.ListN.{length}
 use borrow.Author.Tests.{eq-eqb, ne_eqb}
@@ -31,7 +30,7 @@ use Rattle.judge.specs.View.{standing_of, judged_of}
 use Rattle.twin.proofs.Refusal.{judged}
 use Rattle.deeds.specs.declared.classes.Verdict.{Verdict}
 use Rattle.deeds.specs.Classes.{class_of}
-use Rattle.deeds.specs.Deeds.{Served, carried_of}
+use Rattle.deeds.specs.Deeds.{Served}
 use Rattle.deeds.proofs.Left.{numbered_sound, ready, log_room, log_quiet, leaves}
 use Rattle.enforce.specs.Requests.{Pastes, from_of, verdict_of, weighed_of}
 use Rattle.enforce.proofs.Judging.{path_good, refused_so, not_refused, served, carried_step}

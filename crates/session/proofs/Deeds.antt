@@ -1,7 +1,7 @@
 -- What the deeds of a request leave of the session, each with the parts that it stores, is what the model's request leaves but for the log. Assumes nothing.
 use mathlib.Core.Path.{◌≡◌, refl, sym, ap, subst, ◌∙◌}
 use mathlib.Core.Logic.{◌⊎◌, inl, inr}
-use mathlib.Core.Bool.{Bool, true, false, not, ◌&&◌}
+use mathlib.Core.Bool.{Bool, true, false, not}
 use mathlib.Core.List.{[], ◌∷◌}
 use Prim.Native.Nat.{ℕ, ◌+◌, ◌≤◌}
 use native.Mathlib.Omega.{arith}
@@ -26,7 +26,7 @@ use Rattle.state.specs.View.{view_request, plain_of, answer_of}
 use Rattle.state.specs.Parts.{numbered_in, replaced_in, clipped_in}
 use Rattle.state.proofs.Sessions.{dossier_same}
 use Rattle.deeds.specs.declared.classes.Verdict.{Verdict}
-use Rattle.deeds.specs.Classes.{class_of, Allowed, Open}
+use Rattle.deeds.specs.Classes.{class_of, Allowed}
 use Rattle.deeds.proofs.Allowed.{known}
 use Rattle.deeds.proofs.Parts.{clipboard_unread, clipboard_filled, clipboard_kept, dossier_kept, answer_done}
 use Rattle.session.specs.Requests.{named_in, edited_in, copied_in, read_in, deed_of, done_of, Granted, Laid, Stands}

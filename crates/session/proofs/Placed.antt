@@ -7,29 +7,24 @@ use Prim.Native.Nat.{ℕ}
 use lib.Dec.{T, eqb, eqb→eq, T_not}
 use mir.Facts.{and_yes}
 use Rattle.laws.specs.Slots.{pick}
-use Rattle.path.proofs.Structs.{no}
 use Rattle.path.proofs.Moves.{pick_yes, pick_no}
 use Rattle.model.specs.Things as things
 use Rattle.model.specs.Things.{State}
 use Rattle.model.specs.Refusals.{Request, bad_operand, granted, provisions}
-use Rattle.model.specs.Image as images
 use Rattle.model.specs.Image.{load_added}
 use Rattle.model.specs.Run as run
 use Rattle.tables.specs.declared.Dossier.{Dossier}
 use Rattle.tables.specs.declared.Clipboard.{Clipboard}
 use Rattle.tables.specs.View.{view_dossier, view_clipboard, clipboard_of, ClipboardSound}
-use Rattle.tables.proofs.Rows.{view_clipboard_lem}
 use Rattle.image.specs.declared.Loaded.{Loaded}
 use Rattle.image.specs.View.{loaded_of}
 use Rattle.state.specs.declared.Session.{Session}
 use Rattle.state.specs.declared.Request as structs
 use Rattle.state.specs.declared.Stepped.{Stepped}
-use Rattle.state.specs.declared.Outcome.TheVariants.{BadRecord}
-use Rattle.state.specs.View.{view_request, view_session, session_of, plain_of, answer_of, SessionSound}
+use Rattle.state.specs.View.{view_request, view_session, session_of, SessionSound}
 use Rattle.state.specs.Calls.{stepped_of}
 use Rattle.state.specs.Parts.{clipped_in}
-use Rattle.state.proofs.Sessions.{dossier_same, session_back, clipboard_sound, state_sound, view_session_lem}
-use Rattle.model.specs.Sound.{SoundState}
+use Rattle.state.proofs.Sessions.{dossier_same}
 use Rattle.roundtrip.proofs.Checks.{not_not}
 use Rattle.twin.proofs.Refusal.{judged, outcome}
 use Rattle.twin.proofs.Requests.{numbered}

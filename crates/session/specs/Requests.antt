@@ -1,5 +1,5 @@
 -- A guarded request by parts: what each step of it may rely on, and what it leaves of the session. What a step does not name stays.
-use Rattle.std.specs.Prelude.{◌≡◌, ◌⊎◌, ℕ, T, eqb}
+use Rattle.std.specs.Prelude.{◌≡◌, ◌⊎◌, T, eqb}
 use Rattle.laws.specs.Slots.{pick}
 use Rattle.path.specs.Address.{valid}
 use Rattle.path.specs.View.{asked}

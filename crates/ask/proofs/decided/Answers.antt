@@ -1,10 +1,9 @@
 -- `ask::decided` meets its contract: 1 for a bad question, 12 for a bad image, else what the dossier says. Assumes nothing.
-use borrow.Author.Rules.{rules}
-use borrow.Author.Tests.{not-true, not-false}
+use borrow.Author.Tests.{not-false}
 use mathlib.Core.Path.{sym, ◌∙◌}
 use Rattle.model.specs.Image as images
 use Rattle.ask.specs.Verdict.{view_question}
-use Rattle.ask.proofs.Verdicts.{bad_asked, bad_image, good_image, image_fits, path_asked}
+use Rattle.ask.proofs.Verdicts.{good_image, image_fits, path_asked}
 use Rattle.ask.proofs.decided.Goals as goal
 
 pub decided_on-requires : goal.decided_on-requires

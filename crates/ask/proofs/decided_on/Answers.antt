@@ -1,8 +1,7 @@
 -- `ask::decided_on` meets its contract: 3 for what is not there, 6 for what is not granted, else the provisions. Assumes nothing.
-use borrow.Author.Rules.{rules}
 use mathlib.Core.Path.{sym, ap, ◌∙◌}
 use Rattle.path.specs.View.{steps, asked}
-use Rattle.path.proofs.Structs.{view_path, valid_sound}
+use Rattle.path.proofs.Structs.{view_path}
 use Rattle.tables.specs.View.{view_dossier}
 use Rattle.ask.specs.Verdict.{view_question}
 use Rattle.ask.proofs.Verdicts.{of_decision, absent_there, decided_on_it}

@@ -1,5 +1,4 @@
 -- `ask::dossier_ask` meets its contract: the verdict's number, and its two sets where there is room. Assumes nothing.
-use borrow.Author.Rules.{rules}
 use lib.IntN.{ℤ}
 use mir.Syntax.{w64}
 use mir.ValLaws.{to_z-of_z}
@@ -13,7 +12,7 @@ returns-then-out-lt8 c =
     let a = c.args in
     let q : ℤ → Question = λ t. question_of a.role a.user t a.len a.s1 a.s2 a.s3 a.s4 a.s5 a.s6 a.name a.action in
     let h = answer_short a.image.now a.out.now q (to_z-of_z w64 a.time c.ranges.time) c.decided.ensures c.in-Granted.is
-        c.if-out-lt8.true in
+    c.if-out-lt8.true in
     record { number = h.0; bytes = h.1 }
 
 pub returns-in-Refused : goal.returns-in-Refused
@@ -28,5 +27,5 @@ returns-else-out-lt8 c =
     let a = c.args in
     let q : ℤ → Question = λ t. question_of a.role a.user t a.len a.s1 a.s2 a.s3 a.s4 a.s5 a.s6 a.name a.action in
     let h = answer_written a.image.now a.out.now q (to_z-of_z w64 a.time c.ranges.time) c.decided.ensures c.in-Granted.is
-        c.if-out-lt8.false c.put4.ensures c.put4-in-Granted.ensures in
+    c.if-out-lt8.false c.put4.ensures c.put4-in-Granted.ensures in
     record { number = h.0; bytes = h.1 }

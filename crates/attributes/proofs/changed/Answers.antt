@@ -2,10 +2,10 @@
 use borrow.Author.Rules.{rules}
 use mathlib.Core.Path.{◌≡◌, refl, ap, sym, subst, ◌∙◌}
 use mathlib.Core.Bool.{true, false}
-use mathlib.Core.List.{◌∷◌, ◌++◌, map}
-use Prim.Native.Nat.{◌≤◌, ◌+◌, ◌-◌}
+use mathlib.Core.List.{◌∷◌}
+use Prim.Native.Nat.{◌+◌}
 use native.Mathlib.Omega.{arith}
-use lib.ListN.{take, drop, get_or, set}
+use lib.ListN.{drop, get_or, set}
 use Rattle.laws.proofs.Fill.{held_room, held_each, held_next, row_end, is_fits, is_same}
 use Rattle.laws.proofs.Inplace.{held_size, held_store, unchanged, changed_one, unchanged_all}
 use Rattle.path.specs.View.{steps}

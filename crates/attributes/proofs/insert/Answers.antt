@@ -2,12 +2,12 @@
 use borrow.Author.Rules.{rules}
 use mathlib.Core.Path.{◌≡◌, refl, ap, sym, ◌∙◌}
 use mathlib.Core.Bool.{true, false}
-use Prim.Native.Nat.{◌≤◌, ◌<◌, ◌+◌, ◌-◌}
+use Prim.Native.Nat.{◌+◌, ◌-◌}
 use native.Mathlib.Omega.{arith}
 use lib.ListN.{take, get_or}
 use Rattle.laws.specs.Sorted.{insert}
 use Rattle.laws.proofs.Fill.{is_fits}
-use Rattle.laws.proofs.Inplace.{Falls, falls, fall, fall_each, fall_last, fallen, held_length, held_size, held_all, held_blank, held_first}
+use Rattle.laws.proofs.Inplace.{falls, fall, fall_each, fall_last, fallen, held_length, held_size, held_all, held_blank, held_first}
 use Rattle.laws.proofs.Last.{Ends, ends_in, in_take, sorted_take, insert_alone, insert_up, insert_end, insert_length}
 use Rattle.model.specs.Things.{before_attribute}
 use Rattle.roundtrip.proofs.Orders.{attributes_order}

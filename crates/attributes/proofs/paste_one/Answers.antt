@@ -1,15 +1,12 @@
 -- `attributes::paste_one` meets its contract: the cached row under its new name, inserted. Assumes nothing.
-use borrow.Author.Rules.{rules}
-use mathlib.Core.Path.{◌≡◌, ap, sym, subst, ◌∙◌}
+use mathlib.Core.Path.{◌≡◌, sym, subst, ◌∙◌}
 use mathlib.Core.Option.{none}
 use lib.ListN.{get_or}
-use Rattle.laws.specs.Sorted.{insert}
 use Rattle.path.specs.View.{steps}
 use Rattle.path.proofs.Structs.{facts, path_valid}
-use Rattle.model.specs.Things.{before_attribute}
 use Rattle.model.specs.Moves.{attribute_in}
 use Rattle.tables.specs.declared.Attribute.{Attribute}
-use Rattle.tables.specs.View.{view_attribute, view_attributes, attributes_of, view_value, no_attribute}
+use Rattle.tables.specs.View.{view_attributes, view_value, no_attribute}
 use Rattle.tables.proofs.Rows.{value_there}
 use Rattle.attributes.proofs.paste_one.Goals as goal
 

@@ -2,16 +2,14 @@
 use borrow.Author.Rules.{rules}
 use mathlib.Core.Path.{◌≡◌, ap, ◌∙◌}
 use mathlib.Core.Bool.{true, false}
-use mathlib.Core.List.{◌++◌}
-use Prim.Native.Nat.{◌≤◌, ◌-◌}
 use native.Mathlib.Omega.{arith}
-use lib.ListN.{take, drop, get_or, replicate}
+use lib.ListN.{get_or}
 use Rattle.laws.specs.Sorted.{move}
 use Rattle.laws.proofs.Fill.{held_room, row_end}
-use Rattle.laws.proofs.Inplace.{Packs, packs, pack_each, pack_next, pack, pack_past, Clears, clears, clear, packed, held_length}
+use Rattle.laws.proofs.Inplace.{packs, pack_each, pack_next, pack, pack_past, clear, packed, held_length}
 use Rattle.path.specs.View.{steps}
 use Rattle.model.specs.Moves.{keep, other_attribute}
-use Rattle.tables.specs.View.{view_attribute, attribute_of, view_attributes, attributes_of, attributes_with, blank_attribute, no_attribute}
+use Rattle.tables.specs.View.{view_attribute, attribute_of, attributes_of, attributes_with, blank_attribute, no_attribute}
 use Rattle.tables.proofs.Rows.{attributes_held, attribute_same}
 use Rattle.moves.proofs.Kept.{so_not, row_kept, row_dropped}
 use Rattle.attributes.proofs.without.Goals as goal

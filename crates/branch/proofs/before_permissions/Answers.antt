@@ -1,9 +1,9 @@
 -- `branch::before_permissions` meets its contract. The loop's invariant: no record before k is a permission. Assumes nothing.
 use borrow.Author.Rules.{rules}
 use mathlib.Core.Path.{sym}
-use Prim.Native.Nat.{◌≤◌, ◌-◌, ◌/◌}
+use Prim.Native.Nat.{◌/◌}
 use lib.ListN.{length}
-use Rattle.branch.proofs.Before.{Before, before_none, before_stop, before_more, before_all}
+use Rattle.branch.proofs.Before.{before_stop, before_more}
 use Rattle.branch.proofs.before_permissions.Goals as goal
 
 pub returns-then-image-k-eq3 : goal.returns-then-image-k-eq3

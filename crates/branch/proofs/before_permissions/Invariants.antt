@@ -1,9 +1,6 @@
 -- `branch::before_permissions` meets its contract. The loop's invariant: no record before k is a permission. Assumes nothing.
-use borrow.Author.Rules.{rules}
-use mathlib.Core.Path.{sym}
-use Prim.Native.Nat.{◌≤◌, ◌-◌, ◌/◌}
-use lib.ListN.{length}
-use Rattle.branch.proofs.Before.{Before, before_none, before_stop, before_more, before_all}
+use Prim.Native.Nat.{◌≤◌, ◌-◌}
+use Rattle.branch.proofs.Before.{Before}
 use Rattle.branch.proofs.before_permissions.Given as goal
 
 abbrev pub invariant-loop-k : goal.invariant-loop-k

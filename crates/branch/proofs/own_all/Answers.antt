@@ -1,5 +1,5 @@
 -- `branch::own_all` meets its contract: two tables are the owner's, the third stays. Assumes nothing.
-use Rattle.tables.proofs.Parts.{nodes_sound, attributes_sound, permissions_sound}
+use Rattle.tables.proofs.Parts.{permissions_sound}
 use Rattle.tables.proofs.Tables.{permissions_same}
 use Rattle.branch.proofs.own_all.Goals as goal
 

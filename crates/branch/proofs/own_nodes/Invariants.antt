@@ -1,13 +1,9 @@
 -- `branch::own_nodes` meets its contract: one pass in place: every row keeps its path and is the owner's. Assumes nothing.
-use borrow.Author.Rules.{rules}
-use mathlib.Core.Path.{◌≡◌, refl, ap, sym, ◌∙◌}
+use mathlib.Core.Path.{◌≡◌}
 use Prim.Native.Nat.{◌≤◌, ◌-◌}
-use native.Mathlib.Omega.{arith}
-use Rattle.laws.proofs.Fill.{held_room}
 use Rattle.model.specs.Image.{owned_node}
-use Rattle.tables.specs.View.{view_node, node_of, nodes_of, nodes_with, blank_node, no_node}
-use Rattle.tables.proofs.Rows.{nodes_held, view_node_lem}
-use Rattle.branch.proofs.Changes.{Changes, changes, change, changed}
+use Rattle.tables.specs.View.{view_node, node_of, nodes_with, blank_node}
+use Rattle.branch.proofs.Changes.{Changes}
 use Rattle.branch.proofs.own_nodes.Given as goal
 
 abbrev pub invariant-loop-i : goal.invariant-loop-i

@@ -4,7 +4,6 @@ use Rattle.path.specs.Address.{parent}
 use Rattle.path.specs.View.{steps}
 use Rattle.model.specs.Refusals.{granted}
 use Rattle.tables.specs.View.{view_dossier, view_permissions}
-use Rattle.tables.proofs.Parts.{nodes_sound, attributes_sound, permissions_sound}
 use Rattle.grants.specs.View.{decision_of}
 use Rattle.decide.specs.View.{view_asked, needed, found_by}
 use Rattle.decide.proofs.Objects.{node_owned, attribute_owned}

@@ -1,5 +1,4 @@
 -- `decide::node_for` meets its contract. Assumes nothing.
-use borrow.Author.Rules.{rules}
 use mathlib.Core.Path.{sym, ap, ◌∙◌}
 use Rattle.laws.specs.Slots.{pick}
 use Rattle.path.specs.Address.{parent}

@@ -1,5 +1,4 @@
 -- `decide::owners_in` meets its contract: each owner by its lookup. Assumes nothing.
-use borrow.Author.Rules.{rules}
 use mathlib.Core.Path.{ap, ◌∙◌}
 use Rattle.path.specs.Address.{Address, parent}
 use Rattle.path.specs.View.{steps}

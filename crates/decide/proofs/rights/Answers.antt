@@ -1,28 +1,15 @@
 -- `decide::rights` meets its contract: each number has the needs of its row in the table of requests. Assumes nothing.
-use borrow.Author.Rules.{rules}
-use borrow.Author.Tests.{ne_eqb, eqb-true}
-use borrow.Table.Steps.{cases}
-use mathlib.Core.Path.{◌≡◌, refl, ap, ◌∙◌}
-use mathlib.Core.Logic.{inl, inr, ⊎_elim}
-use mathlib.Core.Bool.{Bool, true, false}
-use mathlib.Core.List.{List}
-use mathlib.Core.Option.{none}
-use Prim.Native.Nat.{ℕ}
-use lib.Dec.{eqb}
-use Rattle.laws.specs.Slots.{pick}
-use Rattle.path.specs.Address.{Address, parent}
+use mathlib.Core.Path.{refl}
+use mathlib.Core.Logic.{⊎_elim}
+use Rattle.path.specs.Address.{parent}
 use Rattle.path.specs.View.{steps}
-use Rattle.model.specs.Things.{Row, Permission}
 use Rattle.model.specs.Decide as model
 use Rattle.model.specs.Moves.{permissions_in}
-use Rattle.tables.specs.declared.Owner.{Owner}
 use Rattle.tables.specs.View.{view_permissions}
-use Rattle.grants.specs.declared.Decision.{Decision}
-use Rattle.grants.specs.declared.Decision.TheVariants.{Denied}
-use Rattle.grants.specs.View.{view_subject, decision_of}
-use Rattle.decide.specs.View.{object_owned, owned_or, there_or}
-use Rattle.decide.proofs.Objects.{both_joined, owned_given, there_given}
-use Rattle.decide.proofs.Numbers.{one, reads, delegates, changes}
+use Rattle.grants.specs.View.{view_subject}
+use Rattle.decide.specs.View.{object_owned}
+use Rattle.decide.proofs.Objects.{both_joined}
+use Rattle.decide.proofs.Numbers.{one, reads, changes}
 use Rattle.decide.proofs.rights.Goals as goal
 
 -- reading the node and changing its parent

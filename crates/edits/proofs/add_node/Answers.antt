@@ -1,12 +1,11 @@
 -- `edits::add_node` meets its contract: a branch of one node: the other tables only move. Assumes nothing.
-use borrow.Author.Rules.{rules}
 use mathlib.Core.Path.{sym, ap, subst, ◌∙◌}
 use mathlib.Core.List.Memᴰ
 use Prim.Native.Nat.{◌+◌, ◌≤◌}
 use native.Mathlib.Omega.{arith}
 use lib.ListN.{length}
 use Rattle.laws.specs.Sorted.{◌∈◌, merge}
-use Rattle.path.specs.Address.{Address, up}
+use Rattle.path.specs.Address.{Address}
 use Rattle.path.specs.View.{steps}
 use Rattle.path.proofs.Structs.{path_valid, valid_short}
 use Rattle.model.specs.Things.{before_node}

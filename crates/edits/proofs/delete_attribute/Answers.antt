@@ -1,5 +1,5 @@
 -- `edits::delete_attribute` meets its contract: two tables change. Assumes nothing.
-use Rattle.tables.proofs.Parts.{nodes_sound, attributes_sound, permissions_sound}
+use Rattle.tables.proofs.Parts.{nodes_sound}
 use Rattle.tables.proofs.Tables.{nodes_same}
 use Rattle.edits.proofs.delete_attribute.Goals as goal
 

@@ -1,5 +1,5 @@
 -- `edits::delete_permission` meets its contract: one table changes. Assumes nothing.
-use Rattle.tables.proofs.Parts.{nodes_sound, attributes_sound, permissions_sound}
+use Rattle.tables.proofs.Parts.{nodes_sound, attributes_sound}
 use Rattle.tables.proofs.Tables.{nodes_same, attributes_same}
 use Rattle.edits.proofs.delete_permission.Goals as goal
 

@@ -31,10 +31,13 @@ paste_under-g-requires c =
     let k = permissions_count c.args.c.held.permissions sound in
     let t = permissions_sound (dossier_fits c.requires.2) in
     let l = permissions_count _ t in
-    let room = c.requires.4.permissions in record { permissions_sound = (sound, t, c.requires.3, omega arith); one_object = (
+    let room = c.requires.4.permissions in record {
+      permissions_sound = (sound, t, c.requires.3, omega arith);
+      one_object = (
         cached_one w.attribute.name w.permissions (cached_seen w.attribute.name w.permissions h),
         no_object (steps c.args.p) c.args.name (view_dossier c.args.d) (whole c.args.d c.requires.2) c.requires.4.named c.requires.4.fresh,
-      ) }
+      );
+    }
 
 pub returns : goal.returns
 returns c =

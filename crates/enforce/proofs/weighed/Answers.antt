@@ -1,5 +1,4 @@
 -- `enforce::weighed` meets its contract: what is judged with the cache of a request that pastes nothing is the same. Assumes nothing.
-use borrow.Author.Rules.{rules}
 use mathlib.Core.Path.{◌≡◌, sym, ap, ◌∙◌}
 use mathlib.Core.Option.{Option}
 use Prim.Native.Nat.{ℕ}
@@ -7,10 +6,8 @@ use Rattle.model.specs.Refusals as refusals
 use Rattle.model.specs.Run as run
 use Rattle.tables.specs.View.{view_dossier, view_clipboard}
 use Rattle.refusals.specs.View.{view_cache}
-use Rattle.judge.specs.declared.Judged.{Judged}
 use Rattle.judge.specs.View.{standing_of, judged_of}
 use Rattle.state.specs.View.{view_request, view_signatures}
-use Rattle.deeds.specs.declared.classes.Verdict.{Verdict}
 use Rattle.enforce.specs.Requests.{verdict_of, weighed_of}
 use Rattle.enforce.proofs.Unread.{refusal_same}
 use Rattle.enforce.proofs.weighed.Goals as goal

@@ -1,18 +1,12 @@
 -- `image::load` meets its contract: by the length, then the three parts in turn. Assumes nothing.
-use borrow.Author.Rules.{rules}
-use borrow.Author.Tests.{not-true, not-false}
+use borrow.Author.Tests.{not-false}
 use mathlib.Core.Path.{◌≡◌, sym, ◌∙◌}
 use mathlib.Core.Bool.{false}
 use mathlib.Core.List.{List}
-use Prim.Native.Nat.{ℕ, ◌+◌, ◌/◌}
-use native.Mathlib.Omega.{arith}
+use Prim.Native.Nat.{ℕ, ◌/◌}
 use lib.ListN.{length}
-use mir.Syntax.{w64}
-use mir.Val.{Fits}
 use Rattle.roundtrip.proofs.Images.{bad_length}
-use Rattle.image.specs.Records.{Breaks}
-use Rattle.image.specs.Rows.{NodesDone, AttributesDone}
-use Rattle.image.proofs.Whole.{nodes_yes, nodes_no, attributes_yes, attributes_no, permissions_yes, permissions_no, whole_records, few_records, length_bad, record_bad, all_good}
+use Rattle.image.proofs.Whole.{permissions_yes, all_good}
 use Rattle.image.proofs.load.Goals as goal
 use Rattle.image.proofs.load.Goals.{Else-is_bad_length}
 

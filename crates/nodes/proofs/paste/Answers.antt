@@ -11,7 +11,7 @@ use Rattle.laws.specs.Slots.{Is}
 use Rattle.laws.specs.Sorted.{interleave, merge}
 use Rattle.laws.proofs.Order.{nat_order}
 use Rattle.laws.proofs.Fill.{held_each, is_fits, is_same}
-use Rattle.laws.proofs.Inplace.{Falls, falls, fall, fall_each, fall_last, fallen, held_length, held_size, held_all, held_blank, held_last, held_first}
+use Rattle.laws.proofs.Inplace.{falls, fall, fall_each, fall_last, fallen, held_length, held_size, held_all, held_blank, held_last, held_first}
 use Rattle.laws.proofs.Last.{Ends, ends_in, in_take, sorted_take}
 use Rattle.path.specs.Address.{before, on}
 use Rattle.path.specs.View.{steps, path_of}

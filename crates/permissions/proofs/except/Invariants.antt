@@ -1,19 +1,13 @@
 -- `permissions::except` meets its contract: one pass in place: a row is kept or not; then the slots that the rows left are blanked. Assumes nothing.
-use borrow.Author.Rules.{rules}
-use mathlib.Core.Path.{◌≡◌, ap, ◌∙◌}
-use mathlib.Core.Bool.{true, false}
+use mathlib.Core.Path.{◌≡◌}
 use mathlib.Core.List.{◌++◌}
 use Prim.Native.Nat.{◌≤◌, ◌-◌}
-use native.Mathlib.Omega.{arith}
-use lib.ListN.{take, drop, get_or, replicate}
+use lib.ListN.{take, drop, replicate}
 use Rattle.laws.specs.Sorted.{move}
-use Rattle.laws.proofs.Fill.{held_room, row_end}
-use Rattle.laws.proofs.Inplace.{Packs, packs, pack_each, pack_next, pack, pack_past, Clears, clears, clear, packed, held_length}
+use Rattle.laws.proofs.Inplace.{Packs, Clears}
 use Rattle.path.specs.View.{steps}
 use Rattle.model.specs.Moves.{keep, other_permission}
-use Rattle.tables.specs.View.{view_grant, view_permission, permission_of, view_permissions, permissions_of, permissions_with, blank_permission, no_permission}
-use Rattle.tables.proofs.Rows.{permissions_held, permission_same}
-use Rattle.moves.proofs.Kept.{so_not, row_kept, row_dropped}
+use Rattle.tables.specs.View.{view_grant, permission_of, view_permissions, permissions_of, permissions_with, blank_permission}
 use Rattle.permissions.proofs.except.Given as goal
 
 abbrev pub invariant-loop-i : goal.invariant-loop-i

@@ -1,15 +1,14 @@
 -- `permissions::of_object` meets its contract: one pass in place: the rows for the object, at the root's path; then the slots that the rows left are blanked. Assumes nothing.
 use borrow.Author.Rules.{rules}
-use mathlib.Core.Path.{◌≡◌, ap, sym, ◌∙◌}
-use mathlib.Core.List.{[], map, ◌++◌}
-use Prim.Native.Nat.{◌≤◌, ◌-◌}
+use mathlib.Core.Path.{ap, sym, ◌∙◌}
+use mathlib.Core.List.{[], map}
 use native.Mathlib.Omega.{arith}
-use lib.ListN.{take, drop, get_or, replicate}
+use lib.ListN.{get_or}
 use Rattle.laws.proofs.Fill.{held_room, row_end}
-use Rattle.laws.proofs.Inplace.{Packs, packs, pack_each, pack_next, pack, pack_past, Clears, clears, clear, packed, held_length}
+use Rattle.laws.proofs.Inplace.{packs, pack_each, pack_next, pack, pack_past, clear, packed, held_length}
 use Rattle.path.specs.View.{steps}
 use Rattle.model.specs.Moves.{grant_row, permissions_in}
-use Rattle.tables.specs.View.{view_permission, permission_of, view_permissions, permissions_of, permissions_with, blank_permission, no_permission}
+use Rattle.tables.specs.View.{view_permission, permission_of, permissions_of, permissions_with, blank_permission, no_permission}
 use Rattle.tables.proofs.Rows.{permissions_held}
 use Rattle.permissions.proofs.Stored.{granted_at}
 use Rattle.permissions.proofs.Objects.{object_here, object_other}

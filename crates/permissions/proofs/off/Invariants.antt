@@ -1,19 +1,13 @@
 -- `permissions::off` meets its contract: one pass in place: a row goes where its path goes, or is gone; then the slots that the rows left are blanked. Assumes nothing.
-use borrow.Author.Rules.{rules}
-use mathlib.Core.Path.{◌≡◌, ap, ◌∙◌}
+use mathlib.Core.Path.{◌≡◌}
 use mathlib.Core.List.{◌++◌}
 use Prim.Native.Nat.{◌≤◌, ◌-◌}
-use native.Mathlib.Omega.{arith}
-use lib.ListN.{take, drop, get_or, replicate}
-use Rattle.laws.proofs.Fill.{held_room, row_end}
-use Rattle.laws.proofs.Inplace.{Packs, packs, pack_each, pack_next, pack, pack_past, Clears, clears, clear, packed, held_length}
+use lib.ListN.{take, drop, replicate}
+use Rattle.laws.proofs.Inplace.{Packs, Clears}
 use Rattle.path.specs.Address.{off}
 use Rattle.path.specs.View.{steps}
 use Rattle.model.specs.Moves.{carried}
-use Rattle.tables.specs.View.{view_permission, permission_of, view_permissions, permissions_of, permissions_with, blank_permission, no_permission}
-use Rattle.tables.proofs.Rows.{permissions_held, permission_path}
-use Rattle.moves.proofs.Stored.{moved_there, moved_gone, row_moves, row_goes}
-use Rattle.permissions.proofs.Stored.{permission_at_lem}
+use Rattle.tables.specs.View.{permission_of, view_permissions, permissions_of, permissions_with, blank_permission}
 use Rattle.permissions.proofs.off.Given as goal
 
 abbrev pub invariant-loop-i : goal.invariant-loop-i

@@ -1,28 +1,13 @@
 -- `permissions::paste` meets its contract: what stood there has moved up; the branch is put in from the end: at each turn the row whose path comes last. Assumes nothing.
-use borrow.Author.Rules.{rules}
-use mathlib.Core.Path.{◌≡◌, refl, ap, ap₂, sym, ◌∙◌}
-use mathlib.Core.Bool.{true, false}
-use mathlib.Core.List.{map}
-use Prim.Native.Nat.{◌≤◌, ◌<◌, ◌+◌, ◌-◌}
-use native.Mathlib.Omega.{arith}
-use lib.ListN.{take, get_or, length}
-use Rattle.laws.specs.Slots.{Is}
+use mathlib.Core.Path.{◌≡◌}
+use Prim.Native.Nat.{◌≤◌, ◌+◌}
+use lib.ListN.{take}
 use Rattle.laws.specs.Sorted.{interleave, merge}
-use Rattle.laws.proofs.Fill.{held_each, is_fits, is_same}
-use Rattle.laws.proofs.Inplace.{Falls, falls, fall, fall_each, fall_last, fallen, held_length, held_size, held_all, held_blank, held_last, held_first}
-use Rattle.laws.proofs.Last.{Ends, ends_in, in_take, sorted_take}
-use Rattle.path.specs.Address.{before, on}
-use Rattle.path.specs.View.{steps, path_of}
+use Rattle.laws.proofs.Inplace.{Falls}
+use Rattle.path.specs.View.{steps}
 use Rattle.model.specs.Things.{before_permission}
-use Rattle.roundtrip.proofs.Orders.{lt_named, named_order}
-use Rattle.tables.specs.declared.Permission.{Permission}
-use Rattle.tables.specs.View.{PermissionSound, view_permission, permission_of, view_permissions, permissions_of, permissions_with, blank_permission, no_permission, Fits}
-use Rattle.tables.proofs.Rows.{permissions_held, permission_path, view_permission_lem, view_permissions_lem}
-use Rattle.tables.proofs.Tables.{permissions_count}
+use Rattle.tables.specs.View.{permission_of, view_permissions, permissions_of, permissions_with}
 use Rattle.moves.specs.Moved.{below}
-use Rattle.moves.proofs.Keys.{on_first_lem, up_first, moved_on}
-use Rattle.moves.proofs.Merged.{Up, Raises, raises, pasted, pasted_length, only_below, last_below, last_raised}
-use Rattle.permissions.proofs.Stored.{permission_at_lem}
 use Rattle.permissions.proofs.paste.Given as goal
 
 abbrev pub invariant-loop-i : goal.invariant-loop-i

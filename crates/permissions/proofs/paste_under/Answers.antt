@@ -3,12 +3,12 @@ use borrow.Author.Rules.{rules}
 use mathlib.Core.Path.{◌≡◌, refl, ap, ap₂, sym, ◌∙◌}
 use mathlib.Core.Bool.{true, false}
 use mathlib.Core.List.{map, map-map}
-use Prim.Native.Nat.{ℕ, ◌≤◌, ◌<◌, ◌+◌, ◌-◌}
+use Prim.Native.Nat.{ℕ, ◌<◌, ◌+◌, ◌-◌}
 use native.Mathlib.Omega.{arith}
 use lib.ListN.{length, take, get_or}
 use Rattle.laws.specs.Sorted.{interleave, merge}
 use Rattle.laws.proofs.Fill.{is_fits}
-use Rattle.laws.proofs.Inplace.{Falls, falls, fall, fall_each, fall_last, fallen, held_length, held_size, held_all, held_blank, held_last, held_first}
+use Rattle.laws.proofs.Inplace.{falls, fall, fall_each, fall_last, fallen, held_length, held_size, held_all, held_blank, held_last, held_first}
 use Rattle.laws.proofs.Last.{Ends, ends_in, in_take, sorted_take, ends_map, ends_only_first, ends_first, ends_second}
 use Rattle.path.specs.View.{steps}
 use Rattle.path.proofs.Structs.{facts, path_valid}
@@ -92,11 +92,10 @@ loop-i-preserved-then-j-eq0 c =
     )
 
 pub permission_before-requires : goal.permission_before-requires
-permission_before-requires c =
-    (
-      record { model = new (goal.at.permission_before-requires c).In-loop-i; same = granted_is (goal.at.permission_before-requires c).After-granted-x; fits = path_valid c.requires.permissions_sound.2 },
-      row_right (goal.at.permission_before-requires c).In-loop-i (omega arith),
-    )
+permission_before-requires c = (
+  record { model = new (goal.at.permission_before-requires c).In-loop-i; same = granted_is (goal.at.permission_before-requires c).After-granted-x; fits = path_valid c.requires.permissions_sound.2 },
+  row_right (goal.at.permission_before-requires c).In-loop-i (omega arith),
+)
 
 pub loop-i-preserved-then-permission_before : goal.loop-i-preserved-then-permission_before
 loop-i-preserved-then-permission_before c =

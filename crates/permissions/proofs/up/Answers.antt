@@ -2,14 +2,13 @@
 use borrow.Author.Rules.{rules}
 use mathlib.Core.Path.{◌≡◌, refl, ap, sym, ◌∙◌}
 use mathlib.Core.Option.{some}
-use Prim.Native.Nat.{◌≤◌, ◌-◌}
 use native.Mathlib.Omega.{arith}
-use lib.ListN.{drop, get_or}
+use lib.ListN.{get_or}
 use Rattle.laws.proofs.Fill.{held_room, row_end}
-use Rattle.laws.proofs.Inplace.{Packs, packs, pack_each, pack_next, pack, clears, packed, held_length}
+use Rattle.laws.proofs.Inplace.{packs, pack_each, pack_next, pack, clears, packed, held_length}
 use Rattle.path.specs.Address.{up}
 use Rattle.path.specs.View.{steps}
-use Rattle.tables.specs.View.{view_permission, permission_of, view_permissions, permissions_of, permissions_with, blank_permission, no_permission}
+use Rattle.tables.specs.View.{view_permission, permission_of, permissions_of, permissions_with, blank_permission, no_permission}
 use Rattle.tables.proofs.Rows.{permissions_held, permission_path}
 use Rattle.moves.specs.Moved.{raised}
 use Rattle.moves.proofs.Stored.{row_moves}

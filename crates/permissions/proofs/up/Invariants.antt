@@ -1,19 +1,11 @@
 -- `permissions::up` meets its contract: one pass in place: a row goes where its path goes. Assumes nothing.
-use borrow.Author.Rules.{rules}
-use mathlib.Core.Path.{◌≡◌, refl, ap, sym, ◌∙◌}
-use mathlib.Core.Option.{some}
+use mathlib.Core.Path.{◌≡◌}
 use Prim.Native.Nat.{◌≤◌, ◌-◌}
-use native.Mathlib.Omega.{arith}
-use lib.ListN.{drop, get_or}
-use Rattle.laws.proofs.Fill.{held_room, row_end}
-use Rattle.laws.proofs.Inplace.{Packs, packs, pack_each, pack_next, pack, clears, packed, held_length}
-use Rattle.path.specs.Address.{up}
+use lib.ListN.{drop}
+use Rattle.laws.proofs.Inplace.{Packs}
 use Rattle.path.specs.View.{steps}
-use Rattle.tables.specs.View.{view_permission, permission_of, view_permissions, permissions_of, permissions_with, blank_permission, no_permission}
-use Rattle.tables.proofs.Rows.{permissions_held, permission_path}
+use Rattle.tables.specs.View.{permission_of, view_permissions, permissions_of, permissions_with, blank_permission}
 use Rattle.moves.specs.Moved.{raised}
-use Rattle.moves.proofs.Stored.{row_moves}
-use Rattle.permissions.proofs.Stored.{permission_at_lem}
 use Rattle.permissions.proofs.up.Given as goal
 
 abbrev pub invariant-loop-i : goal.invariant-loop-i

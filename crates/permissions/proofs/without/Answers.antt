@@ -2,16 +2,14 @@
 use borrow.Author.Rules.{rules}
 use mathlib.Core.Path.{◌≡◌, ap, ◌∙◌}
 use mathlib.Core.Bool.{true, false}
-use mathlib.Core.List.{◌++◌}
-use Prim.Native.Nat.{◌≤◌, ◌-◌}
 use native.Mathlib.Omega.{arith}
-use lib.ListN.{take, drop, get_or, replicate}
+use lib.ListN.{get_or}
 use Rattle.laws.specs.Sorted.{move}
 use Rattle.laws.proofs.Fill.{held_room, row_end}
-use Rattle.laws.proofs.Inplace.{Packs, packs, pack_each, pack_next, pack, pack_past, Clears, clears, clear, packed, held_length}
+use Rattle.laws.proofs.Inplace.{packs, pack_each, pack_next, pack, pack_past, clear, packed, held_length}
 use Rattle.path.specs.View.{steps}
 use Rattle.model.specs.Moves.{keep, other_object}
-use Rattle.tables.specs.View.{view_permission, permission_of, view_permissions, permissions_of, permissions_with, blank_permission, no_permission}
+use Rattle.tables.specs.View.{view_permission, permission_of, permissions_of, permissions_with, blank_permission, no_permission}
 use Rattle.tables.proofs.Rows.{permissions_held, permission_same}
 use Rattle.moves.proofs.Kept.{so_not, row_kept, row_dropped}
 use Rattle.permissions.proofs.without.Goals as goal

@@ -4,7 +4,7 @@ use native.Mathlib.Omega.{arith}
 use borrow.Author.Rules.{rules}
 use Rattle.model.specs.Run as run
 use Rattle.tables.proofs.Parts.{nodes_sound}
-use Rattle.refusals.proofs.Clipboards.{branch_fits, branch_seen, branch_sizes, nodes_short, single_seen, single_sizes, empty_seen}
+use Rattle.refusals.proofs.Clipboards.{branch_fits, branch_seen, branch_sizes, nodes_short, single_seen, single_sizes}
 use Rattle.refusals.proofs.Objects.{nodes_size, nodes_room, attributes_size, attributes_room, permissions_size, permissions_room}
 use Rattle.refusals.proofs.cached.Goals as goal
 

@@ -1,17 +1,11 @@
 -- `save::put_attributes` meets its contract. The loop’s invariant: what it must leave is what it has, with the records of the rows left from k on. Assumes nothing.
-use borrow.Author.Rules.{rules}
-use mathlib.Core.Path.{◌≡◌, sym, ◌∙◌}
-use mathlib.Core.List.{◌∷◌, map}
-use Prim.Native.Nat.{◌+◌, ◌-◌, ◌≤◌}
-use native.Mathlib.Omega.{arith}
-use lib.ListN.{length, drop, get_or}
+use mathlib.Core.List.{map}
+use Prim.Native.Nat.{◌-◌, ◌≤◌}
+use lib.ListN.{drop}
 use Rattle.laws.specs.Slots.{put}
-use Rattle.laws.proofs.Fill.{held_room, held_each, held_next, row_end, is_fits}
 use Rattle.model.specs.Image.{attribute_record, bytes_of}
-use Rattle.tables.specs.View.{view_attribute, view_attributes, attributes_of, no_attribute}
-use Rattle.tables.proofs.Rows.{attributes_held, view_attributes_lem}
-use Rattle.tables.proofs.Tables.{attributes_count}
-use Rattle.save.proofs.Rows.{Puts, attribute_forty, puts_begin, puts_length, puts_room, puts_next, puts_done}
+use Rattle.tables.specs.View.{view_attributes}
+use Rattle.save.proofs.Rows.{Puts}
 use Rattle.save.proofs.put_attributes.Given as goal
 
 abbrev pub invariant-loop-i : goal.invariant-loop-i

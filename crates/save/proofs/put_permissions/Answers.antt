@@ -1,17 +1,16 @@
 -- `save::put_permissions` meets its contract. The loop’s invariant: what it must leave is what it has, with the records of the rows left from k on. Assumes nothing.
 use borrow.Author.Rules.{rules}
-use mathlib.Core.Path.{◌≡◌, sym, ◌∙◌}
+use mathlib.Core.Path.{◌≡◌}
 use mathlib.Core.List.{◌∷◌, map}
-use Prim.Native.Nat.{◌+◌, ◌-◌, ◌≤◌}
-use native.Mathlib.Omega.{arith}
-use lib.ListN.{length, drop, get_or}
+use Prim.Native.Nat.{◌+◌}
+use lib.ListN.{drop, get_or}
 use Rattle.laws.specs.Slots.{put}
-use Rattle.laws.proofs.Fill.{held_room, held_each, held_next, row_end, is_fits}
+use Rattle.laws.proofs.Fill.{held_room, held_each, held_next, is_fits}
 use Rattle.model.specs.Image.{permission_record, bytes_of}
 use Rattle.tables.specs.View.{view_permission, view_permissions, permissions_of, no_permission}
 use Rattle.tables.proofs.Rows.{permissions_held, view_permissions_lem}
 use Rattle.tables.proofs.Tables.{permissions_count}
-use Rattle.save.proofs.Rows.{Puts, permission_forty, puts_begin, puts_length, puts_room, puts_next, puts_done}
+use Rattle.save.proofs.Rows.{Puts, permission_forty, puts_begin, puts_room, puts_next}
 use Rattle.save.proofs.put_permissions.Goals as goal
 use Rattle.save.proofs.put_permissions.Goals.{In-loop-i, Start}
 

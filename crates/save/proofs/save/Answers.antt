@@ -6,7 +6,6 @@ use native.Mathlib.Omega.{arith}
 use lib.ListN.{length}
 use Rattle.model.specs.Image as images
 use Rattle.tables.specs.View.{view_dossier}
-use Rattle.tables.proofs.Parts.{nodes_sound, attributes_sound, permissions_sound}
 use Rattle.save.proofs.Saved.{too_short, all_written, need, saved}
 use Rattle.save.proofs.save.Goals as goal
 

@@ -1,5 +1,5 @@
 -- `session::load` meets its contract: the step on the two dossiers alone is the step on the session. Assumes nothing.
-use mathlib.Core.Path.{◌≡◌, sym, ap, ap₂, subst, ◌∙◌}
+use mathlib.Core.Path.{ap, ◌∙◌}
 use Rattle.state.specs.declared.DossiersOut.{DossiersOut}
 use Rattle.session.specs.Parts.{store_one, store_two}
 use Rattle.session.proofs.Frame.{load_means}

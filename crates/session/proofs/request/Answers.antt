@@ -1,5 +1,5 @@
 -- `session::request` meets its contract: a request looks at its image or stays with the clipboard. Assumes nothing.
-use mathlib.Core.Path.{◌≡◌, sym, ap, ap₂, subst, ◌∙◌}
+use mathlib.Core.Path.{sym, ap, subst, ◌∙◌}
 use Rattle.enforce.specs.declared.Laden.{Laden}
 use Rattle.session.specs.Requests.{Carries, laden_step}
 use Rattle.session.proofs.Tests.{called_yes, called_no}

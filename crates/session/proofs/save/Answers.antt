@@ -1,5 +1,5 @@
 -- `session::save` meets its contract: the step on the two dossiers alone is the step on the session. Assumes nothing.
-use mathlib.Core.Path.{◌≡◌, sym, ap, ap₂, subst, ◌∙◌}
+use mathlib.Core.Path.{◌∙◌}
 use Rattle.session.proofs.Frame.{save_means}
 use Rattle.session.proofs.save.Goals as goal
 

@@ -1,5 +1,5 @@
 -- `session::save_clipboard` meets its contract: the step on the clipboard alone is the step on the session. Assumes nothing.
-use mathlib.Core.Path.{◌≡◌, sym, ap, ap₂, subst, ◌∙◌}
+use mathlib.Core.Path.{◌∙◌}
 use Rattle.session.proofs.Frame.{clipboard_means}
 use Rattle.session.proofs.save_clipboard.Goals as goal
 

@@ -1,5 +1,5 @@
 -- `session::sign` meets its contract: the step on the signatures alone is the step on the session. Assumes nothing.
-use mathlib.Core.Path.{◌≡◌, sym, ap, ap₂, subst, ◌∙◌}
+use mathlib.Core.Path.{ap, ◌∙◌}
 use Rattle.state.specs.declared.signatures.SignaturesOut.{SignaturesOut}
 use Rattle.session.specs.Parts.{store_signatures}
 use Rattle.session.proofs.Frame.{sign_means}

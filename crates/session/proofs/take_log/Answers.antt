@@ -1,5 +1,5 @@
 -- `session::take_log` meets its contract: the step on the log alone is the step on the session. Assumes nothing.
-use mathlib.Core.Path.{◌≡◌, sym, ap, ap₂, subst, ◌∙◌}
+use mathlib.Core.Path.{ap, ◌∙◌}
 use Rattle.state.specs.declared.entries.LogOut.{LogOut}
 use Rattle.session.specs.Parts.{store_log}
 use Rattle.session.proofs.Frame.{take_means}

@@ -1,5 +1,4 @@
 -- `unguarded::clipboard_saved` meets its contract. Assumes nothing.
-use borrow.Author.Rules.{rules}
 use mathlib.Core.Path.{◌∙◌}
 use Rattle.unguarded.proofs.Saving.{clipboard_done}
 use Rattle.unguarded.proofs.clipboard_saved.Goals as goal

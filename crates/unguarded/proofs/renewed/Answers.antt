@@ -1,5 +1,4 @@
 -- `unguarded::renewed` meets its contract: one of the dossiers is a bare root, or nothing changes. Assumes nothing.
-use borrow.Author.Rules.{rules}
 use borrow.Author.Tests.{eq-eqb, ne_eqb, lt-leb, le-leb}
 use mathlib.Core.Path.{◌≡◌, ap, ◌∙◌}
 use mathlib.Core.Bool.{true, ◌&&◌}

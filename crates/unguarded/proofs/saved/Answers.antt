@@ -1,5 +1,4 @@
 -- `unguarded::saved` meets its contract: dossier 1 or dossier 2, or nothing is written. Assumes nothing.
-use borrow.Author.Rules.{rules}
 use borrow.Author.Tests.{eq-eqb, ne_eqb}
 use mathlib.Core.Path.{◌≡◌, sym, ap, ◌∙◌}
 use mathlib.Core.Bool.{true}

@@ -1,18 +1,13 @@
 -- `deeds::classes::attributes_at` meets its contract: one table changes. Assumes nothing.
-use mathlib.Core.Path.{sym, ap, subst, ◌∙◌}
+use mathlib.Core.Path.{sym, subst}
 use native.Mathlib.Omega.{arith}
-use Rattle.model.specs.Things as things
-use Rattle.model.specs.Refusals.{Request}
-use Rattle.model.specs.Run as run
-use Rattle.tables.specs.declared.Attributes.{Attributes}
-use Rattle.tables.specs.View.{view_dossier, dossier_of}
+use Rattle.tables.specs.View.{view_dossier}
 use Rattle.tables.proofs.Parts.{dossier_fits, attributes_sound}
 use Rattle.tables.proofs.Tables.{attributes_count}
 use Rattle.edits.proofs.Whole.{whole}
-use Rattle.deeds.specs.Classes.{Open, class_of}
+use Rattle.deeds.specs.Classes.{Open}
 use Rattle.deeds.proofs.Allowed.{name_room}
 use Rattle.deeds.proofs.Rows.{attribute_row}
-use Rattle.deeds.proofs.Numbers.{not_eight, told}
 use Rattle.deeds.proofs.classes.attributes_at.Goals as goal
 
 pub insert-requires : goal.insert-requires

@@ -1,14 +1,10 @@
 -- `deeds::classes::copied_at` meets its contract: a branch or an attribute, of a request that is not refused. Assumes nothing.
-use mathlib.Core.Path.{◌≡◌, sym, subst}
-use mathlib.Core.Logic.{◌⊎◌, ⊎_elim}
-use Rattle.model.specs.Things as things
-use Rattle.model.specs.Refusals.{Request}
-use Rattle.model.specs.Run as run
-use Rattle.tables.specs.declared.Clipboard.{Clipboard}
-use Rattle.tables.specs.View.{view_dossier, clipboard_of}
-use Rattle.deeds.specs.Classes.{Open, class_of}
+use mathlib.Core.Path.{sym, subst}
+use mathlib.Core.Logic.{⊎_elim}
+use Rattle.tables.specs.View.{view_dossier}
+use Rattle.deeds.specs.Classes.{Open}
 use Rattle.deeds.proofs.Allowed.{node_there, node_there_cut}
-use Rattle.deeds.proofs.Numbers.{no_branch_copied, either, neither_of, told}
+use Rattle.deeds.proofs.Numbers.{either}
 use Rattle.deeds.proofs.classes.copied_at.Goals as goal
 
 pub copy_branch-requires : goal.copy_branch-requires

@@ -1,5 +1,4 @@
 -- `deeds::requests::copy_attribute` meets its contract: what was looked up has the name that it was looked up under. Assumes nothing.
-use borrow.Author.Rules.{rules}
 use mathlib.Core.Path.{sym, ap, ◌∙◌}
 use Rattle.path.specs.View.{steps}
 use Rattle.tables.specs.View.{view_dossier, clipboard_of}

@@ -2,7 +2,6 @@
 use Rattle.path.specs.View.{steps}
 use Rattle.tables.proofs.Parts.{dossier_fits, nodes_sound, attributes_sound}
 use Rattle.edits.proofs.Whole.{whole}
-use Rattle.state.specs.declared.Outcome.TheVariants.{Contents}
 use Rattle.deeds.proofs.requests.read_node.Goals as goal
 
 pub names_in-names-requires : goal.names_in-names-requires

@@ -2,15 +2,15 @@
 use borrow.Author.Rules.{rules}
 use borrow.Author.Tests.{not-true, not-false}
 use mathlib.Core.Path.{◌≡◌, sym, ap, ap₂, subst, ◌∙◌}
-use Prim.Native.Nat.{◌≤◌, ◌<◌, ◌+◌, ◌-◌}
+use Prim.Native.Nat.{◌≤◌, ◌+◌, ◌-◌}
 use native.Mathlib.Omega.{arith}
 use lib.ListN.{set, get_or}
 use Rattle.laws.proofs.Fill.{held_room, held_each}
 use Rattle.tables.specs.View.{no_attribute, attributes_with}
 use Rattle.tables.proofs.Rows.{attribute_path, attributes_held}
 use Rattle.image.specs.Rows.{attribute_tests, AttributesUpto}
-use Rattle.image.proofs.Lent.{keys_size, keys_long, keys_ascend, there_by_keys}
-use Rattle.image.proofs.Phases.{attributes_begin, answer_at, attribute_path_sound, attribute_breaks, attribute_room, attributes_more}
+use Rattle.image.proofs.Lent.{keys_long, keys_ascend, there_by_keys}
+use Rattle.image.proofs.Phases.{attributes_begin, answer_at, attribute_path_sound, attribute_breaks, attributes_more}
 use Rattle.image.proofs.attributes.read_attributes.Goals as goal
 use Rattle.image.proofs.attributes.read_attributes.Goals.{After-attribute_fits, Else-r-ne2}
 

@@ -1,16 +1,8 @@
 -- `image::columns::is_object_among` meets its contract: the place of the pair is between lo and hi; the pair there is it, or none is. Assumes nothing.
-use borrow.Author.Rules.{rules}
-use borrow.Author.Tests.{ltb-true, ltb-false}
-use mathlib.Core.Path.{◌≡◌, sym, ap, ◌∙◌}
-use mathlib.Core.Bool.{◌&&◌, ◌||◌}
-use Prim.Native.Nat.{ℕ, ◌+◌, ◌-◌, ◌/◌, ◌≤◌}
-use native.Mathlib.Omega.{arith}
-use lib.Dec.{eqb, ltb}
-use lib.ListN.{length, take, get_or}
+use Prim.Native.Nat.{◌-◌, ◌≤◌}
+use lib.ListN.{length, take}
 use Rattle.laws.specs.Search.{place}
-use Rattle.tables.proofs.Compare.{lexed_or}
 use Rattle.image.specs.Columns.{beside, before_pair}
-use Rattle.image.proofs.Halving.{column_most, column_side, column_past, column_here, pairs_order, pair_to, pair_from, beside_at, beside_long}
 use Rattle.image.proofs.columns.is_object_among.Given as goal
 
 abbrev pub invariant-loop-lo : goal.invariant-loop-lo

@@ -1,14 +1,12 @@
 -- `image::columns::keys_of` meets its contract: each row's number is stored at the row's place. Assumes nothing.
 use borrow.Author.Rules.{rules}
 use mathlib.Core.Path.{refl, ◌∙◌}
-use Prim.Native.Nat.{◌+◌, ◌-◌, ◌≤◌, ◌<◌}
+use Prim.Native.Nat.{◌+◌, ◌<◌}
 use native.Mathlib.Omega.{arith}
 use lib.ListN.{drop, get_or}
-use Rattle.laws.specs.Slots.{slots}
-use Rattle.laws.proofs.Fill.{Fills, begin, turn, done, held_room, held_each, held_next, row_end}
+use Rattle.laws.proofs.Fill.{begin, turn, held_room, held_each, held_next}
 use Rattle.tables.specs.View.{view_node, view_nodes, no_node}
 use Rattle.tables.proofs.Rows.{node_path, nodes_held}
-use Rattle.image.specs.Columns.{keys_of}
 use Rattle.image.proofs.Keys.{alone, key_of_row, number_key}
 use Rattle.image.proofs.columns.keys_of.Goals as goal
 

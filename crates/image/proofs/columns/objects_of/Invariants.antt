@@ -1,15 +1,11 @@
 -- `image::columns::objects_of` meets its contract: each row's number and name are stored at the row's place. Assumes nothing.
-use borrow.Author.Rules.{rules}
-use mathlib.Core.Path.{refl, ◌∙◌}
-use Prim.Native.Nat.{◌+◌, ◌-◌, ◌≤◌, ◌<◌}
-use native.Mathlib.Omega.{arith}
-use lib.ListN.{drop, get_or}
+use Prim.Native.Nat.{◌-◌, ◌≤◌}
+use lib.ListN.{drop}
 use Rattle.laws.specs.Slots.{slots}
-use Rattle.laws.proofs.Fill.{Fills, begin, turn, done, held_room, held_each, held_next, row_end}
-use Rattle.tables.specs.View.{view_attribute, view_attributes, no_attribute}
-use Rattle.tables.proofs.Rows.{attribute_path, attributes_held}
+use Rattle.laws.proofs.Fill.{Fills}
+use Rattle.tables.specs.View.{view_attributes}
 use Rattle.image.specs.Columns.{keys_of, names_of}
-use Rattle.image.proofs.Keys.{alone, key_of_row, name_of_row, number_key}
+use Rattle.image.proofs.Keys.{alone, key_of_row, name_of_row}
 use Rattle.image.proofs.columns.objects_of.Given as goal
 
 abbrev pub invariant-loop-i : goal.invariant-loop-i

@@ -1,5 +1,4 @@
 -- `image::nodes::left_of` meets its contract: the child of the parent with one step less. Assumes nothing.
-use borrow.Author.Rules.{rules}
 use mathlib.Core.Path.{◌≡◌, ap, ap₂, ◌∙◌}
 use Prim.Native.Nat.{◌-◌}
 use native.Mathlib.Omega.{arith}

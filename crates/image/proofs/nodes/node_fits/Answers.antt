@@ -1,6 +1,5 @@
 -- `image::nodes::node_fits` meets its contract: the rules in turn. Assumes nothing.
-use borrow.Author.Rules.{rules}
-use borrow.Author.Tests.{not-true, not-false}
+use borrow.Author.Tests.{not-false}
 use mathlib.Core.Path.{◌≡◌, sym, ap, subst, ◌∙◌}
 use mathlib.Core.Bool.{Bool, false}
 use mathlib.Core.List.{List}
@@ -14,7 +13,7 @@ use Rattle.path.specs.View.{steps, key_of}
 use Rattle.model.specs.Image.{left}
 use Rattle.image.specs.Columns.{NoneAbove, among}
 use Rattle.image.proofs.Keys.{number_key}
-use Rattle.image.proofs.Tests.{node_full, node_second, node_root, node_orphan, node_first, node_beside, last_more}
+use Rattle.image.proofs.Tests.{node_second, node_root, node_first, node_beside, last_more}
 use Rattle.image.proofs.nodes.node_fits.Goals as goal
 use Rattle.image.proofs.nodes.node_fits.Goals.{After-is_among, After-key, After-node_here, Else-last_step-eq1, Else-size-eq0, Start}
 

@@ -1,12 +1,8 @@
 -- `image::nodes::node_here` meets its contract: the last key is the only one that can be k. Assumes nothing.
-use borrow.Author.Rules.{rules}
 use borrow.Author.Tests.{eq-eqb, eqb-true}
-use mathlib.Core.Path.{sym, ap}
 use native.Mathlib.Omega.{arith}
 use lib.Dec.{eqb, ltb→lt}
-use lib.ListN.{take}
 use Rattle.laws.proofs.Order.{nat_order}
-use Rattle.image.specs.Columns.{among}
 use Rattle.image.proofs.Halving.{column_last}
 use Rattle.image.proofs.nodes.node_here.Goals as goal
 

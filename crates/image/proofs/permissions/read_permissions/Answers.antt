@@ -1,9 +1,8 @@
 -- `image::permissions::read_permissions` meets its contract. The outer loop's invariant: the records so far are good, and the tables hold them. The inner
 -- loop's: of a permission, whether one of its object clashes with it from row j on. Assumes nothing.
-use borrow.Author.Rules.{rules}
 use mathlib.Core.Path.{◌≡◌, sym, ap, ap₂, subst, ◌∙◌}
 use mathlib.Core.Bool.{◌||◌, not}
-use Prim.Native.Nat.{◌≤◌, ◌<◌, ◌+◌, ◌-◌}
+use Prim.Native.Nat.{◌+◌, ◌-◌}
 use native.Mathlib.Omega.{arith}
 use lib.Dec.{eqb, leb}
 use lib.ListN.{set}
@@ -13,9 +12,9 @@ use Rattle.path.specs.View.{steps}
 use Rattle.tables.specs.View.{view_grant, no_permission, permissions_with}
 use Rattle.tables.proofs.Rows.{permission_path, permissions_held}
 use Rattle.image.specs.Rows.{PermissionsUpto}
-use Rattle.image.proofs.Lent.{keys_size, keys_long, keys_ascend, there_by_keys, tops_long, names_long, objects_ascend, there_by_objects}
+use Rattle.image.proofs.Lent.{keys_long, keys_ascend, there_by_keys, tops_long, names_long, objects_ascend, there_by_objects}
 use Rattle.image.proofs.Clashes.{clash_from, walk_begins, walk_on, walk_ends}
-use Rattle.image.proofs.Phases.{third, permissions_begin, permission_answer, permission_path_sound, permission_none_after, permission_breaks, permission_room, permissions_more}
+use Rattle.image.proofs.Phases.{third, permissions_begin, permission_answer, permission_path_sound, permission_none_after, permission_breaks, permissions_more}
 use Rattle.image.proofs.permissions.read_permissions.Goals as goal
 use Rattle.image.proofs.permissions.read_permissions.Goals.{After-is_same, After-loop-j}
 
@@ -24,14 +23,17 @@ loop-k-init c = permissions_begin c.requires.1 c.no_permissions-t.ensures
 
 pub object_there-on-requires : goal.object_there-on-requires
 object_there-on-requires c =
-    let u = c.loop-k.invariant in record { m_in_bounds = (
+    let u = c.loop-k.invariant in record {
+      m_in_bounds = (
         keys_long c.args.nodes u.on c.keys_of-keys.result c.keys_of-keys.ensures,
         keys_ascend c.args.nodes u.on c.keys_of-keys.result c.keys_of-keys.ensures,
-      ); h_in_bounds = (
+      );
+      h_in_bounds = (
         tops_long c.args.attributes u.of c.objects_of-objects.result c.objects_of-objects.ensures,
         names_long c.args.attributes u.of c.objects_of-objects.result c.objects_of-objects.ensures,
         objects_ascend c.args.attributes u.of c.objects_of-objects.result c.objects_of-objects.ensures,
-      ) }
+      );
+    }
 
 pub loop-j-init : goal.loop-j-init
 loop-j-init c =

@@ -1,5 +1,4 @@
 -- `image::records::record_after` meets its contract: the first record, or two parts of the image compared. Assumes nothing.
-use borrow.Author.Rules.{rules}
 use mathlib.Core.Path.{sym, ap, ◌∙◌}
 use Rattle.parse.specs.View.{record_of}
 use Rattle.image.proofs.Ascends.{first_record, later_record, not_after}

@@ -2,7 +2,6 @@
 use mathlib.Core.Path.{◌≡◌, sym, ap, subst, ◌∙◌}
 use mathlib.Core.Bool.{false}
 use Prim.Native.Nat.{ℕ}
-use borrow.Author.Rules.{rules}
 use Rattle.model.specs.Refusals as refusals
 use Rattle.model.specs.Run.{found}
 use Rattle.tables.specs.View.{view_dossier}
@@ -12,7 +11,7 @@ use Rattle.refusals.specs.declared.Seen.{Seen}
 use Rattle.refusals.specs.Look.{SeenSound}
 use Rattle.refusals.proofs.Looked.{seen_sound}
 use Rattle.judge.specs.View.{standing_of, judged_of, judgement, judged_in}
-use Rattle.judge.proofs.Order.{Good, good, refused_1, on_seen}
+use Rattle.judge.proofs.Order.{on_seen}
 use Rattle.judge.proofs.table.judged.Goals as goal
 use Rattle.judge.proofs.table.judged.Goals.{Else-bad_operand}
 

@@ -1,5 +1,4 @@
 -- `refusals::look::around_at` meets its contract: the parent's path stands for the parent. Assumes nothing.
-use borrow.Author.Rules.{rules}
 use mathlib.Core.Path.{ap, ◌∙◌}
 use Prim.Native.Nat.{ℕ}
 use Rattle.path.specs.Address.{Address, parent}

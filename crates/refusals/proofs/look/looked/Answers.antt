@@ -1,12 +1,10 @@
 -- `refusals::look::looked` meets its contract: each part by the function that finds it. Assumes nothing.
-use borrow.Author.Rules.{rules}
 use mathlib.Core.Path.{ap, ◌∙◌}
 use Rattle.path.specs.View.{steps}
 use Rattle.model.specs.Moves.{permissions_in}
 use Rattle.model.specs.Refusals as refusals
 use Rattle.tables.specs.declared.Owner.{Owner}
 use Rattle.tables.specs.View.{view_permissions}
-use Rattle.tables.proofs.Parts.{nodes_sound, attributes_sound, permissions_sound}
 use Rattle.grants.specs.View.{decision_of}
 use Rattle.lookups.specs.declared.Held.{Held}
 use Rattle.decide.specs.declared.Owners.{Owners}

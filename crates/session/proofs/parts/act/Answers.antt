@@ -1,5 +1,5 @@
 -- `session::parts::act` meets its contract: its messages are logged, and its deed is done. Assumes nothing.
-use mathlib.Core.Path.{◌≡◌, sym, ap, ap₂, subst, ◌∙◌}
+use mathlib.Core.Path.{sym, ap, subst, ◌∙◌}
 use Rattle.state.specs.declared.Log.{Log}
 use Rattle.session.specs.Parts.{store_log}
 use Rattle.session.specs.Requests.{done_of, Stands}

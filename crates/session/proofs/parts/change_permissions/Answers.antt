@@ -1,5 +1,5 @@
 -- `session::parts::change_permissions` meets its contract: the dossier with its permissions stored is the dossier that the request leaves. Assumes nothing.
-use mathlib.Core.Path.{◌≡◌, sym, ap, ap₂, subst, ◌∙◌}
+use mathlib.Core.Path.{sym, ap, ap₂, ◌∙◌}
 use Rattle.model.specs.Things as things
 use Rattle.model.specs.Run as run
 use Rattle.tables.specs.declared.Dossier.{Dossier}
@@ -21,10 +21,10 @@ returns c =
     let v = c.args.v in
     let s = c.args.s.now in
     let o = c.permissions_at-o.ensures
-        ∙ ap (λ (d : Dossier). record { dossier = v.dossier; permissions = (dossier_of (run.edited (view_request v.request) (view_dossier d) things.empty)).permissions }) c.dossier_in-d.ensures.0 in
+    ∙ ap (λ (d : Dossier). record { dossier = v.dossier; permissions = (dossier_of (run.edited (view_request v.request) (view_dossier d) things.empty)).permissions }) c.dossier_in-d.ensures.0 in
     let p = c.put_permissions.ensures in (
       p.0,
       p.1
-      ∙ ap₂ (λ (x : PermissionsOut) (t : Session). replaced_in x.dossier (with_permissions (numbered_in x.dossier t) x.permissions) t) o c.dossier_in-d.ensures.1
-      ∙ ap (λ (d : Dossier). replaced_in v.dossier d s) (sym (permissions_only (view_request v.request) ok.0.sound things.empty (sym ok.0.class ∙ ok.1))),
+          ∙ ap₂ (λ (x : PermissionsOut) (t : Session). replaced_in x.dossier (with_permissions (numbered_in x.dossier t) x.permissions) t) o c.dossier_in-d.ensures.1
+          ∙ ap (λ (d : Dossier). replaced_in v.dossier d s) (sym (permissions_only (view_request v.request) ok.0.sound things.empty (sym ok.0.class ∙ ok.1))),
     )

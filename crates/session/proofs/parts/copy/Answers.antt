@@ -1,5 +1,4 @@
 -- `session::parts::copy` meets its contract: the dossier that the request names is what its deed may rely on. Assumes nothing.
-use mathlib.Core.Path.{◌≡◌, sym, ap, ap₂, subst, ◌∙◌}
 use Rattle.session.proofs.Deeds.{either_class}
 use Rattle.session.proofs.parts.copy.Goals as goal
 

@@ -1,5 +1,5 @@
 -- `session::parts::deed` meets its contract: one of seven deeds, by its class, or the refusal. Assumes nothing.
-use mathlib.Core.Path.{◌≡◌, sym, ap, ap₂, subst, ◌∙◌}
+use mathlib.Core.Path.{◌∙◌}
 use Rattle.session.proofs.Tests.{same_number}
 use Rattle.session.proofs.Deeds.{read_means, attributes_means, permissions_means, edit_means, paste_means, copy_means, cut_means}
 use Rattle.session.proofs.parts.deed.Goals as goal

@@ -1,5 +1,5 @@
 -- `session::parts::paste` meets its contract: the dossier that the request names and the clipboard are what a paste may rely on. Assumes nothing.
-use mathlib.Core.Path.{◌≡◌, sym, ap, ap₂, subst, ◌∙◌}
+use mathlib.Core.Path.{sym, ◌∙◌}
 use Rattle.session.proofs.parts.paste.Goals as goal
 
 pub pasted_at-o-requires : goal.pasted_at-o-requires

@@ -1,5 +1,5 @@
 -- `session::parts::perform` meets its contract: what is named is weighed. Assumes nothing.
-use mathlib.Core.Path.{◌≡◌, sym, ap, ap₂, subst, ◌∙◌}
+use mathlib.Core.Path.{sym, ap₂, subst, ◌∙◌}
 use Rattle.tables.specs.declared.Dossier.{Dossier}
 use Rattle.tables.specs.View.{view_clipboard}
 use Rattle.state.specs.declared.Session.{Session}

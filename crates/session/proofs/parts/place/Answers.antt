@@ -1,5 +1,5 @@
 -- `session::parts::place` meets its contract: the image lies on the clipboard for the time of the paste. Assumes nothing.
-use mathlib.Core.Path.{◌≡◌, sym, ap, ap₂, subst, ◌∙◌}
+use mathlib.Core.Path.{ap, ◌∙◌}
 use Rattle.state.specs.declared.Session.{Session}
 use Rattle.state.specs.Parts.{clipped_in}
 use Rattle.session.proofs.Tests.{yes}
