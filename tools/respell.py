@@ -70,7 +70,7 @@ def table(top):
         for word in TOKEN.findall(text):
             if CAMEL.fullmatch(word) and "-" not in word:
                 ours.add(word)
-    words = {snake(n) for n in ours if "-" not in n}
+    words = {snake(n) for n in ours if "-" not in n and n in known}
     of_records = fields(top)
     new = {n: n + "_lem" for n in lemmas & words if n not in ours}
     plain = {n for n in known if n not in ours} | words

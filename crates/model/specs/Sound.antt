@@ -20,7 +20,7 @@ pub record Sound (d : Dossier) : Type 0 where
   -- the root is there, and of every other node the parent and the left sibling
   pub root : T (there (node_at [] d))
   pub above : (r : Row ℕ) → r ∈ d.nodes → T (is_root r.0 || there (node_at (parent r.0) d))
-  pub left_there_lem : (r : Row ℕ) → r ∈ d.nodes → T (is_root r.0 || (eqb (last r.0) 1 || there (node_at (left r.0) d)))
+  pub left_there : (r : Row ℕ) → r ∈ d.nodes → T (is_root r.0 || (eqb (last r.0) 1 || there (node_at (left r.0) d)))
   -- an attribute's node and a permission's object are there
   pub on_node : (r : Row Attribute) → r ∈ d.attributes → T (there (node_at r.0 d))
   pub on_object : (r : Row (ℕ × Permission)) → r ∈ d.permissions → T (there (object_at r.0 r.1.0 d))

@@ -52,10 +52,10 @@ module _ (d : Dossier) (s : Sound d) (r : Row ℕ) (g : T (in_range (node_record
         above = λ z h. new_or_old (λ y. T (is_root y.0 || there (node_at (parent y.0) node_more))) r z d.nodes
             (or_else (is_root r.0) (a && b) (there (node_at (parent r.0) node_more)) (λ n u. more (parent r.0) (and_yes a b u).0) parts.1)
             (λ y k. or_else (is_root y.0) (there (node_at (parent y.0) d)) (there (node_at (parent y.0) node_more)) (λ n u. more (parent y.0) u) (s.above y k)) (back z h);
-        left_there_lem = λ z h. new_or_old (λ y. T (is_root y.0 || (eqb (last y.0) 1 || there (node_at (left y.0) node_more)))) r z d.nodes
+        left_there = λ z h. new_or_old (λ y. T (is_root y.0 || (eqb (last y.0) 1 || there (node_at (left y.0) node_more)))) r z d.nodes
             (or_else (is_root r.0) (a && b) (eqb (last r.0) 1 || there (node_at (left r.0) node_more)) (λ n u. left_more r.0 (and_yes a b u).1) parts.1)
             (λ y k. or_else (is_root y.0) (eqb (last y.0) 1 || there (node_at (left y.0) d)) (eqb (last y.0) 1 || there (node_at (left y.0) node_more))
-            (λ n u. left_more y.0 u) (s.left_there_lem y k)) (back z h);
+            (λ n u. left_more y.0 u) (s.left_there y k)) (back z h);
         on_node = λ z h. more z.0 (s.on_node z h);
         on_object = λ z h. object_kept z.0 z.1.0 d node_more (more_nodes z.0) (λ x m. m) (s.on_object z h);
         one_node = λ q o o' h h'. one q o o' (back (q, o) h) (back (q, o') h');
@@ -111,7 +111,7 @@ module _ (d : Dossier) (s : Sound d) (r : Row Attribute) (g : T (in_range (attri
         permissions_good = s.permissions_good;
         root = s.root;
         above = s.above;
-        left_there_lem = s.left_there_lem;
+        left_there = s.left_there;
         on_node = λ z h. new_or_old (λ y. T (there (node_at y.0 d))) r z d.attributes parts.0 s.on_node (back z h);
         on_object = λ z h. object_kept z.0 z.1.0 d attribute_more (λ o m. m) (λ a m. insert_old before_attribute attributes_order r (z.0, a) d.attributes m) (s.on_object z h);
         one_node = s.one_node;
@@ -181,8 +181,8 @@ module _ (d : Dossier) (s : Sound d) (r : Row (ℕ × Permission)) (g : T (in_ra
         permissions_good = λ z h. new_or_old (λ y. T (in_range (permission_record y))) r z d.permissions g s.permissions_good (back z h);
         root = more [] s.root;
         above = λ z h. or_else (is_root z.0) (there (node_at (parent z.0) d)) (there (node_at (parent z.0) permission_more)) (λ n u. more (parent z.0) u) (s.above z h);
-        left_there_lem = λ z h. or_else (is_root z.0) (eqb (last z.0) 1 || there (node_at (left z.0) d)) (eqb (last z.0) 1 || there (node_at (left z.0) permission_more))
-            (λ n. or_else (eqb (last z.0) 1) (there (node_at (left z.0) d)) (there (node_at (left z.0) permission_more)) (λ m u. more (left z.0) u)) (s.left_there_lem z h);
+        left_there = λ z h. or_else (is_root z.0) (eqb (last z.0) 1 || there (node_at (left z.0) d)) (eqb (last z.0) 1 || there (node_at (left z.0) permission_more))
+            (λ n. or_else (eqb (last z.0) 1) (there (node_at (left z.0) d)) (there (node_at (left z.0) permission_more)) (λ m u. more (left z.0) u)) (s.left_there z h);
         on_node = λ z h. more z.0 (s.on_node z h);
         on_object = λ z h. object_more z.0 z.1.0 (new_or_old (λ y. T (there (object_at y.0 y.1.0 d))) r z d.permissions parts.0 s.on_object (back z h));
         one_node = s.one_node;

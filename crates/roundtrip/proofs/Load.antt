@@ -92,7 +92,7 @@ module _ (d : Dossier) (s : Sound d) where
       (or_else (is_root p) (there (node_at (parent p) d)) (there (node_at (parent p) st)) (λ n t. earlier (parent p) (parent_before p n) t) (s.above r in_d))
       (or_else (is_root p) (eqb (last p) 1 || there (node_at (left p) d)) (eqb (last p) 1 || there (node_at (left p) st))
       (λ n. or_else (eqb (last p) 1) (there (node_at (left p) d)) (there (node_at (left p) st)) (λ k t. earlier (left p) (left_before p (path_valid (node_record r) (s.nodes_good r in_d)) n) t))
-      (s.left_there_lem r in_d)))
+      (s.left_there r in_d)))
       (cut_room l r m e 64 s.few_nodes)))
     where
       p : Address

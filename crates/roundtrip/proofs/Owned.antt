@@ -109,8 +109,8 @@ module _ (u : ℕ) where
   pub node_taken : (d : Dossier) (r : Row ℕ) → adding u accept (all_owned u d) (node_record r) ≡ Option.map (all_owned u) (accept d (node_record r))
   node_taken d r =
       let m = length-map d.nodes (owned_node u) in
-      let left_there_lem = node_owned (left r.0) d in
-      (λ i. pick (node_fits r.0 (node_owned r.0 d i) (node_owned (parent r.0) d i) (left_there_lem i) (m i)) (some (added (all_owned u d) (node_record (owned_node u r)))) none)
+      let left_there = node_owned (left r.0) d in
+      (λ i. pick (node_fits r.0 (node_owned r.0 d i) (node_owned (parent r.0) d i) (left_there i) (m i)) (some (added (all_owned u d) (node_record (owned_node u r)))) none)
       ∙ taken (fits d (node_record r)) (added (all_owned u d) (node_record (owned_node u r))) (added d (node_record r)) (λ t i. record {
         nodes = insert_map before_node before_node (owned_node u) r d.nodes (λ y h. (nodes_compare r y (apart t y h), nodes_compare y r (λ e. apart t y h (sym e)))) i;
         attributes = map (owned_attribute u) d.attributes;

@@ -40,7 +40,7 @@ bare_sound u g =
       permissions_good = λ r h. absurd (Memᴰ.not-nil h);
       root = tt;
       above = λ r h. only (λ y. T (is_root y.0 || there (node_at (parent y.0) (bare u)))) r h tt;
-      left_there_lem = λ r h. only (λ y. T (is_root y.0 || (eqb (last y.0) 1 || there (node_at (left y.0) (bare u))))) r h tt;
+      left_there = λ r h. only (λ y. T (is_root y.0 || (eqb (last y.0) 1 || there (node_at (left y.0) (bare u))))) r h tt;
       on_node = λ r h. absurd (Memᴰ.not-nil h);
       on_object = λ r h. absurd (Memᴰ.not-nil h);
       one_node = λ p o o' h h'. let e = Memᴰ.eq_of_singleton h in let e' = Memᴰ.eq_of_singleton h' in λ i. ((e ∙ sym e') i).1;

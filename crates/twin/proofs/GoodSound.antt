@@ -127,9 +127,9 @@ module _ (t : Tree Node) (g : GoodTree t) where
   above [] n e = tt
   above (k ∷ q) n e = let w = parent_stands k q t n e in node_there (parent (k ∷ q)) w.0 w.1
 
-  left_there_lem : (p : Address) (n : Node) → look p t ≡ some n → T (is_root p || (eqb (last p) 1 || there (moves.node_at (left p) (dossier_of t))))
-  left_there_lem [] n e = tt
-  left_there_lem (k ∷ q) n e = go (test (eqb (last (k ∷ q)) 1))
+  left_there : (p : Address) (n : Node) → look p t ≡ some n → T (is_root p || (eqb (last p) 1 || there (moves.node_at (left p) (dossier_of t))))
+  left_there [] n e = tt
+  left_there (k ∷ q) n e = go (test (eqb (last (k ∷ q)) 1))
     where
       go : Test (eqb (last (k ∷ q)) 1) → T (eqb (last (k ∷ q)) 1 || there (moves.node_at (left (k ∷ q)) (dossier_of t)))
       go (holds s) = or_left (eqb (last (k ∷ q)) 1) (there (moves.node_at (left (k ∷ q)) (dossier_of t))) s
@@ -201,7 +201,7 @@ module _ (t : Tree Node) (g : GoodTree t) where
     permissions_good = λ r h. permission_good_lem r.0 r.1 h;
     root = node_there [] (payload t) refl;
     above = λ r h. let w = node_row_lem r.0 r.1 h in above r.0 w.0 w.1;
-    left_there_lem = λ r h. let w = node_row_lem r.0 r.1 h in left_there_lem r.0 w.0 w.1;
+    left_there = λ r h. let w = node_row_lem r.0 r.1 h in left_there r.0 w.0 w.1;
     on_node = λ r h. let w = attribute_row r.0 r.1 h in node_there r.0 w.0 w.1;
     on_object = λ r h. let w = permission_row r.0 r.1 h in object_there r.0 r.1 w.0 w.1 w.2;
     one_node = one_node;
