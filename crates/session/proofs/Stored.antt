@@ -23,6 +23,10 @@ second_is s n = go (eqb n 1)
     go true t = absurd t
     go false t = refl
 
+-- what the code leaves of a session whose dossier 1 it sets
+pub one_written : (s : Session) (d : Dossier) → record { one = d; two = s.two; clipboard = s.clipboard; signatures = s.signatures; log = s.log } ≡ store_one s d
+one_written s d = refl
+
 -- another dossier, made of the one that stands there
 pub first_stored : (s : Session) (f : Dossier → Dossier) (n : ℕ) → T (eqb n 1) → store_one s (f s.one) ≡ replaced_in n (f (numbered_in n s)) s
 first_stored s f n = go (eqb n 1)
