@@ -8,8 +8,8 @@ port.py respells what the library's tables know; this does the rest, in crates/ 
 - a lemma of the repository that has hyphens, as view-node, becomes view_node;
 - where that would be the name of another definition, the lemma ends in _lem.
 In an edit a projection of a definition is written tight, as r.path, as port.py writes it elsewhere.
-Functions of src/, goals that Rattle names, strings, inputs and outputs keep their names. It ends with the names that would fall together
-with another name in some file: none may be left.
+Functions of src/, goals that Rattle names, strings, inputs and outputs keep their names. It ends with the names that fall together
+with another name in some file, for a reader to look at: a function's folder or a field of the same name does no harm.
 """
 
 import collections

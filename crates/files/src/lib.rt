@@ -4,6 +4,7 @@
 use answers::put_text;
 use lines::whys::NOT_READ;
 use std::fs;
+use std::fs::OpenFile;
 use std::io::{Read, Write};
 use std::rt::Files;
 use words::hex::{Count, hex_in};
@@ -96,7 +97,10 @@ fn written(rt: &impl Files, path: &str, bytes: &[u8]) -> bool {
     let Ok(mut file) = fs::create(rt, path) else {
         return false;
     };
-    if file.write_all(bytes).is_ok() {
+    // Nothing is told when a file is closed, so what a late write comes to is asked before.
+    let put = file.write_all(bytes).is_ok();
+    let kept = file.sync_all().is_ok();
+    if put & kept {
         return true;
     }
     let _ = fs::remove_file(rt, path);

@@ -179,12 +179,20 @@ fn show_blame(rt: &impl Print, record: usize, images: usize) {
     text(rt, b"\n");
 }
 
-pub fn bad(rt: &(impl Files + Print), name: &[u8], file: &str) {
-    let mut table = [0usize; 449];
-    let t = match fs::open(rt, file) {
-        Ok(mut images) => blame_all(&mut images, &mut table),
-        Err(_) => blame_all(&mut io::empty(), &mut table),
+// The images of a file; one that cannot be opened has none.
+fn blamed_in(rt: &impl Files, file: &[u8], table: &mut [usize; 449]) -> Tally {
+    let Ok(path) = str::from_utf8(file) else {
+        return blame_all(&mut io::empty(), table);
     };
+    match fs::open(rt, path) {
+        Ok(mut images) => blame_all(&mut images, table),
+        Err(_) => blame_all(&mut io::empty(), table),
+    }
+}
+
+pub fn bad(rt: &(impl Files + Print), name: &[u8], file: &[u8]) {
+    let mut table = [0usize; 449];
+    let t = blamed_in(rt, file, &mut table);
     text(rt, name);
     text(rt, b": ");
     number(rt, t.images);
