@@ -1,13 +1,12 @@
 -- What the deeds of a request leave of the session, each with the parts that it stores, is what the model's request leaves but for the log. Assumes nothing.
 use mathlib.Core.Path.{◌≡◌, refl, sym, ap, subst, ◌∙◌}
 use mathlib.Core.Logic.{◌⊎◌, inl, inr}
-use mathlib.Core.Bool.{Bool, true, false, not}
+use mathlib.Core.Bool.{Bool, true, false}
 use mathlib.Core.List.{[], ◌∷◌}
-use Prim.Native.Nat.{ℕ, ◌+◌, ◌≤◌}
+use Prim.Native.Nat.{ℕ, ◌+◌}
 use native.Mathlib.Omega.{arith}
-use lib.Dec.{T, eqb, leb, eqb→eq, leb→le, T_not}
-use mir.Facts.{and_yes}
-use borrow.Author.Tests.{eq-eqb, ne_eqb}
+use lib.Dec.{T, eqb, eqb→eq}
+use borrow.Author.Tests.{ne_eqb}
 use Rattle.laws.specs.Slots.{pick}
 use Rattle.laws.proofs.Fill.{is_same}
 use Rattle.model.specs.Things as things
@@ -35,10 +34,6 @@ use Rattle.session.specs.Requests.{named_in, edited_in, copied_in, read_in, deed
 pub either_class : {s : Session} {v : Verdict} {a b : ℕ} → Granted s v → (v.class ≡ a) ⊎ (v.class ≡ b) → (class_of v.request.number ≡ a) ⊎ (class_of v.request.number ≡ b)
 either_class g (inl e) = inl (sym g.class ∙ e)
 either_class g (inr e) = inr (sym g.class ∙ e)
-
--- another clipboard changes nothing of what is granted
-pub still_granted : {s : Session} {v : Verdict} {c : Clipboard} → Granted s v → Granted (clipped_in c s) v
-still_granted g = record { valid = g.valid; named = g.named; class = g.class; sound = g.sound; free = g.free }
 
 -- ---- a deed that was done is one of a class above 0
 same_clipboard : {c : Clipboard} → ClipboardSound c → c ≡ clipboard_of (view_clipboard c)
@@ -143,7 +138,7 @@ module _ (s : Session) (v : Verdict) where
       let e = sym g.0.class ∙ class_is s v 6 t in
       ((g.0, class_is s v 6 t), leaves s v 6 t (edited_so e tt) (copied_so e g.0 tt) (plain_answer e tt))
 
--- ---- what is not refused has a class, and what has none is refused
+-- ---- what is not refused has a class
 pub works : {q : Request} {m : things.Dossier} {k : things.Clipboard} → Allowed q m k → T (between 1 7 (class_of q.number))
 works {q} a = go (between 1 7 (class_of q.number)) refl
   where
@@ -153,25 +148,3 @@ works {q} a = go (between 1 7 (class_of q.number)) refl
       where
         no : (k : ℕ) → T (between 1 7 (class_of k)) → q.number ≡ k → ⊥
         no k t n = subst T e (subst (λ (m : ℕ). T (between 1 7 (class_of m))) (sym n) t)
-
-differs : (n k : ℕ) → T (not (eqb n k)) → n ≡ k → ⊥
-differs n k t e = T_not (eqb n k) t (subst T (sym (eq-eqb n k e)) tt)
-
--- a number up to k + 1 that is not k + 1 is up to k
-below : (k n : ℕ) → n ≤ k + 1 → (n ≡ k + 1 → ⊥) → n ≤ k
-below k n le ne = omega arith
-
-pub refused_means : (s : Session) (v : Verdict) → Stands s v
-    → T (not (eqb v.class 1)) × (T (not (eqb v.class 2)) × (T (not (eqb v.class 3)) × (T (not (eqb v.class 4)) × (T (not (eqb v.class 5)) × (T (not (eqb v.class 6)) × (T (not (eqb v.class 7))))))))
-    → (plain_of (Refused v.refusal) ≡ (done_of s v).answer) × (s ≡ (done_of s v).session)
-refused_means s v (inl e) t =
-    let w = ap (λ (b : Bool). pick b (record { session = s; answer = plain_of (Refused v.refusal) }) (deed_of s v)) (sym (eq-eqb v.class 0 e)) in
-    (ap (λ o. o.answer) w, ap (λ o. o.session) w)
-refused_means s v (inr w) t =
-    let b = works w.1.allowed in
-    let x = leb→le 1 (class_of v.request.number) (and_yes (leb 1 (class_of v.request.number)) (leb (class_of v.request.number) 7) b).0 in
-    let y = leb→le (class_of v.request.number) 7 (and_yes (leb 1 (class_of v.request.number)) (leb (class_of v.request.number) 7) b).1 in
-    let n = w.0.class in
-    let y' : v.class ≤ 7 = omega arith in
-    let z = below 0 _ (below 1 _ (below 2 _ (below 3 _ (below 4 _ (below 5 _ (below 6 _ y' (differs _ 7 t.1.1.1.1.1.1)) (differs _ 6 t.1.1.1.1.1.0)) (differs _ 5 t.1.1.1.1.0)) (differs _ 4 t.1.1.1.0)) (differs _ 3 t.1.1.0)) (differs _ 2 t.1.0)) (differs _ 1 t.0) in
-    absurd (omega arith)

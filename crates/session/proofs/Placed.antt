@@ -106,11 +106,6 @@ module _ (s : Session) (l : Laden) (w : Carries s l) where
       let q = swapped w.sound r (seventeen r w.places) l.clipboard in
       (q.0 ∙ ap (λ (o : Stepped). o.answer) e, q.1 ∙ ap (λ (o : Stepped). o.session) e)
 
-  pub bad_left : T (not l.good) → (l.answer ≡ (laden_step s l).answer) × (s ≡ (laden_step s l).session)
-  bad_left t =
-      let e = sym (pick_no l.good (from_of s r (view_clipboard l.clipboard)) (record { session = s; answer = l.answer }) (T_not l.good t)) in
-      (ap (λ (o : Stepped). o.answer) e, ap (λ (o : Stepped). o.session) e)
-
 -- ---- the whole request
 module _ (s : Session) (q : structs.Request) (image : List ℕ) (h : SessionSound s) where
   abbrev asked : Request

@@ -9,20 +9,6 @@ use Rattle.state.specs.declared.Session.{Session}
 use Rattle.state.specs.Parts.{numbered_in, replaced_in}
 use Rattle.session.specs.Parts.{store_one, store_two}
 
-pub first_is : (s : Session) (n : ℕ) → T (eqb n 1) → s.one ≡ numbered_in n s
-first_is s n = go (eqb n 1)
-  where
-    go : (b : Bool) → T b → s.one ≡ pick b s.one s.two
-    go true t = refl
-    go false t = absurd t
-
-pub second_is : (s : Session) (n : ℕ) → T (not (eqb n 1)) → s.two ≡ numbered_in n s
-second_is s n = go (eqb n 1)
-  where
-    go : (b : Bool) → T (not b) → s.two ≡ pick b s.one s.two
-    go true t = absurd t
-    go false t = refl
-
 -- what the code leaves of a session whose dossier 1 it sets
 pub one_written : (s : Session) (d : Dossier) → record { one = d; two = s.two; clipboard = s.clipboard; signatures = s.signatures; log = s.log } ≡ store_one s d
 one_written s d = refl

@@ -1,14 +1,14 @@
 -- `session::parts::put_attributes` meets its contract: attributes are stored under the dossier's number. Assumes nothing.
-use borrow.Author.Tests.{ne_eqb}
+use lib.Dec.{eqb, eqb→eq, not_T}
+use mir.Facts.{yes_eqb}
 use Rattle.session.specs.Requests.{with_attributes}
-use Rattle.session.proofs.Tests.{no, same_number}
 use Rattle.session.proofs.Stored.{first_stored, second_stored}
 use Rattle.session.proofs.parts.put_attributes.Goals as goal
 
 pub returns-then-n-eq1 : goal.returns-then-n-eq1
 returns-then-n-eq1 c =
-    let o = c.args.o in (c.done.ensures, first_stored c.args.s.now (λ d. with_attributes d o.attributes) o.dossier (same_number c.if-n-eq1.true))
+    let o = c.args.o in (c.done.ensures, first_stored c.args.s.now (λ d. with_attributes d o.attributes) o.dossier (yes_eqb c.if-n-eq1.true))
 
 pub returns : goal.returns
 returns c =
-    let o = c.args.o in (c.done-2.ensures, second_stored c.args.s.now (λ d. with_attributes d o.attributes) o.dossier (no (ne_eqb o.dossier 1 c.if-n-eq1.false)))
+    let o = c.args.o in (c.done-2.ensures, second_stored c.args.s.now (λ d. with_attributes d o.attributes) o.dossier (not_T (eqb o.dossier 1) (λ t. c.if-n-eq1.false (eqb→eq o.dossier 1 t))))
