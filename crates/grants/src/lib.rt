@@ -1,17 +1,16 @@
 // Permissions: one against a subject or another permission, and those of one object.
 #![tactic(auto)]
 
-ghost use Rattle.std.specs.Prelude.{◌≡◌, [], ◌∷◌};
+ghost use Rattle.std.specs.Prelude.{◌≡◌, map};
 ghost use Rattle.path.specs.View.{steps, PathSound};
 ghost use Rattle.model.specs.Decide as model;
 ghost use Rattle.model.specs.Moves.{permissions_in};
 ghost use Rattle.tables.specs.View.{view_grant, view_permissions, PermissionsSound};
-ghost use Rattle.grants.specs.View.{view_subject, decision_of, view_decision, first_of, walk_of, weights_of};
+ghost use Rattle.grants.specs.View.{view_subject, decision_of, walk_of, weights_of};
 
-use path::{Path, is_same};
+use path::{Path, key};
 use tables::order::same_grant;
-use tables::place::object_before;
-use tables::{Grant, Permissions};
+use tables::{Grant, Permission, Permissions};
 
 // Who asks, in which role, when.
 #[derive(Clone, Copy)]
@@ -21,11 +20,11 @@ pub struct Subject {
     pub time: i64,
 }
 
-// Not granted; or granted, with the messages to log and the agreements to be signed.
+// What a permission asks of who uses it: the messages to log and the agreements to be signed.
 #[derive(Clone, Copy)]
-pub enum Decision {
-    Denied,
-    Granted(u32, u32),
+pub struct Provisions {
+    pub messages: u32,
+    pub agreements: u32,
 }
 
 // ---- one permission
@@ -101,70 +100,53 @@ pub fn covers(s: Subject, g: Grant, c: Grant) -> bool
 
 // ---- the permissions of one object
 
+// The object's permissions, which stand together: the first of them is found by halving.
+fn of_object(t: &Permissions, p: Path, name: u16) -> &[Permission]
+    requires { PermissionsSound t.now × PathSound p }
+    ensures { map (λ a. view_grant a.grant) result.now ≡ permissions_in (steps p) name (view_permissions t.now) }
+{
+    let k = key(p);
+    let rows = &t.rows[..t.count];
+    let first = rows.partition_point(|a| {
+        let j = key(a.path);
+        (j < k) | ((j == k) & (a.name < name))
+    });
+    let rest = &rows[first..];
+    let n = rest
+        .iter()
+        .take_while(|a| (a.name == name) & (key(a.path) == k))
+        .count();
+    &rest[..n]
+}
+
 // What the object's permissions give the subject, for each action that is granted by one: the first that matches.
 #[derive(Clone, Copy)]
 pub struct Walk {
-    pub read: Decision,
-    pub change: Decision,
-    pub delegate: Decision,
+    pub read: Option<Provisions>,
+    pub change: Option<Provisions>,
+    pub delegate: Option<Provisions>,
 }
 
-// What g gives the subject.
-fn given(s: Subject, action: u8, g: Grant) -> Decision
-    ensures { result ≡ decision_of (model.matched (view_subject s) action (view_grant g ∷ [])) }
+// What the first permission that matches asks for.
+fn given(rows: &[Permission], s: Subject, action: u8) -> Option<Provisions>
+    ensures { result ≡ decision_of (model.matched (view_subject s) action (map (λ a. view_grant a.grant) rows.now)) }
 {
-    if matches(s, action, g) {
-        return Decision::Granted(g.messages, g.agreements);
-    }
-    Decision::Denied
+    let g = rows.iter().find(|a| matches(s, action, a.grant))?.grant;
+    Some(Provisions {
+        messages: g.messages,
+        agreements: g.agreements,
+    })
 }
 
-// What was given before, or else what is given now.
-fn first_of(was: Decision, now: Decision) -> Decision
-    ensures { result ≡ first_of was (view_decision now) }
-{
-    match was {
-        Decision::Denied => now,
-        Decision::Granted(m, a) => Decision::Granted(m, a),
-    }
-}
-
-// The object's permissions stand together: one walk weighs them for all actions.
 pub fn walked(t: Permissions, p: Path, name: u16, s: Subject) -> Walk
     requires { PermissionsSound t × PathSound p }
     ensures { result ≡ walk_of (view_subject s) (permissions_in (steps p) name (view_permissions t)) }
 {
-    let n = t.count;
-    let mut i: usize = 0;
-    let mut hi = n;
-    while i < hi {
-        let mid = i + (hi - i) / 2;
-        let b = t.rows[mid];
-        if object_before(b.path, b.name, p, name) {
-            i = mid + 1;
-        } else {
-            hi = mid;
-        }
-    }
-    let mut read = Decision::Denied;
-    let mut change = Decision::Denied;
-    let mut delegate = Decision::Denied;
-    while i < n {
-        let row = t.rows[i];
-        if (row.name == name) & is_same(row.path, p) {
-            let g = row.grant;
-            read = first_of(read, given(s, 1, g));
-            change = first_of(change, given(s, 2, g));
-            delegate = first_of(delegate, given(s, 4, g));
-            i += 1;
-        } else {
-            i = n;
-        }
-    }
+    let rows = of_object(&t, p, name);
     Walk {
-        read: read,
-        change: change,
-        delegate: delegate,
+        read: given(rows, s, 1),
+        change: given(rows, s, 2),
+        delegate: given(rows, s, 4),
     }
 }
 
@@ -180,37 +162,11 @@ pub fn weighed(t: Permissions, p: Path, name: u16, s: Subject, g: Grant) -> Weig
     requires { PermissionsSound t × PathSound p }
     ensures { result ≡ weights_of (view_subject s) (view_grant g) (permissions_in (steps p) name (view_permissions t)) }
 {
-    let n = t.count;
-    let mut i: usize = 0;
-    let mut hi = n;
-    while i < hi {
-        let mid = i + (hi - i) / 2;
-        let b = t.rows[mid];
-        if object_before(b.path, b.name, p, name) {
-            i = mid + 1;
-        } else {
-            hi = mid;
-        }
-    }
-    let mut held = false;
-    let mut covered = false;
-    let mut clashing = false;
-    while i < n {
-        let one = t.rows[i];
-        if (one.name == name) & is_same(one.path, p) {
-            let h = one.grant;
-            held = held | same_grant(g, h);
-            covered = covered | covers(s, g, h);
-            clashing = clashing | clash(g, h);
-            i += 1;
-        } else {
-            i = n;
-        }
-    }
+    let rows = of_object(&t, p, name);
     Weights {
-        held: held,
-        covered: covered,
-        clashing: clashing,
+        held: rows.iter().any(|a| same_grant(g, a.grant)),
+        covered: rows.iter().any(|a| covers(s, g, a.grant)),
+        clashing: rows.iter().any(|a| clash(g, a.grant)),
     }
 }
 
@@ -219,30 +175,7 @@ pub fn clash_in(t: Permissions, p: Path, name: u16, g: Grant) -> bool
     requires { PermissionsSound t × PathSound p }
     ensures { result ≡ model.clash_any (view_grant g) (permissions_in (steps p) name (view_permissions t)) }
 {
-    let n = t.count;
-    let mut i: usize = 0;
-    let mut hi = n;
-    while i < hi {
-        let mid = i + (hi - i) / 2;
-        let b = t.rows[mid];
-        if object_before(b.path, b.name, p, name) {
-            i = mid + 1;
-        } else {
-            hi = mid;
-        }
-    }
-    while i < n {
-        let a = t.rows[i];
-        if (a.name == name) & is_same(a.path, p) {
-            if clash(g, a.grant) {
-                return true;
-            }
-            i += 1;
-        } else {
-            return false;
-        }
-    }
-    false
+    of_object(&t, p, name).iter().any(|a| clash(g, a.grant))
 }
 
 // Whether a permission of the object covers g for the subject.
@@ -250,30 +183,7 @@ pub fn cover_in(t: Permissions, p: Path, name: u16, s: Subject, g: Grant) -> boo
     requires { PermissionsSound t × PathSound p }
     ensures { result ≡ model.cover_any (view_subject s) (view_grant g) (permissions_in (steps p) name (view_permissions t)) }
 {
-    let n = t.count;
-    let mut i: usize = 0;
-    let mut hi = n;
-    while i < hi {
-        let mid = i + (hi - i) / 2;
-        let b = t.rows[mid];
-        if object_before(b.path, b.name, p, name) {
-            i = mid + 1;
-        } else {
-            hi = mid;
-        }
-    }
-    while i < n {
-        let a = t.rows[i];
-        if (a.name == name) & is_same(a.path, p) {
-            if covers(s, g, a.grant) {
-                return true;
-            }
-            i += 1;
-        } else {
-            return false;
-        }
-    }
-    false
+    of_object(&t, p, name)
+        .iter()
+        .any(|a| covers(s, g, a.grant))
 }
-
-// ---- granted
