@@ -99,11 +99,11 @@ module _ (t : Permissions) (h : PermissionsSound t) (p : Path) (hp : PathSound p
           let one : 1 + prefix_len (of k n) m ≡ suc (prefix_len (of k n) m) = omega arith in
           ap (λ j. map (λ a. view_grant a.grant) (take j (x ∷ m))) one ∙ ap (λ l. view_grant x.grant ∷ l) ih
           ∙ sym (permissions_row (steps p) n (view_permission x) (map view_permission m)
-              ∙ ap (λ b. push (pick b (some (view_grant x.grant)) none) (permissions_in (steps p) n (map view_permission m))) (sym s ∙ g))
+          ∙ ap (λ b. push (pick b (some (view_grant x.grant)) none) (permissions_in (steps p) n (map view_permission m))) (sym s ∙ g))
       go false g s c y ih =
           sym (ap (permissions_in (steps p) n) (sym (drop_map view_permission i rows ∙ ap (map view_permission) e))
-              ∙ rows_other (permissions_searched h) (steps p, n) (of_permission_lem (steps p) n (λ l. l)) i no_permission f c
-                  (ap (λ (a : Permission). eqb a.name n && same (steps a.path) (steps p)) y ∙ sym s ∙ g))
+          ∙ rows_other (permissions_searched h) (steps p, n) (of_permission_lem (steps p) n (λ l. l)) i no_permission f c
+          (ap (λ (a : Permission). eqb a.name n && same (steps a.path) (steps p)) y ∙ sym s ∙ g))
 
   -- s has the rows from the place on, and its first j are the object's
   pub found : (i : ℕ) → i ≡ spot → (s : List Permission) → s ≡ drop i rows → (j : ℕ) → j ≡ prefix_len (of k n) s

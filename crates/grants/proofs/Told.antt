@@ -32,7 +32,6 @@ pub first_told : (s : model.Subject) (action : ℕ) (l : List Permission)
 first_told s action [] = refl
 first_told s action (x ∷ l) = go (model.matches s action (view_grant x.grant)) (first_told s action l)
   where
-
     go : (b : Bool) → option_map asked (find (λ a. model.matches s action (view_grant a.grant)) l) ≡ decision_of (model.matched s action (map (λ a. view_grant a.grant) l))
         → option_map asked (cond b (Some x) (find (λ a. model.matches s action (view_grant a.grant)) l))
         ≡ decision_of (pick b (some (model.provisions_of (view_grant x.grant))) (model.matched s action (map (λ a. view_grant a.grant) l)))

@@ -33,7 +33,7 @@ pub struct Provisions {
 pub fn concerns(s: Subject, action: u8, g: Grant) -> bool
     ensures { result ≡ model.concerns (view_subject s) action (view_grant g) }
 {
-    (g.role == s.role) & ((g.action == action) & ((g.user == 0) | (g.user == s.user)))
+    g.role == s.role && g.action == action && (g.user == 0 || g.user == s.user)
 }
 
 // The time is in the interval, both ends included.
@@ -41,21 +41,20 @@ pub fn during(g: Grant, s: Subject) -> bool
     ensures { result ≡ model.during (view_grant g) s.time }
 {
     let span = g.span;
-    (span.first <= s.time) & (s.time <= span.last)
+    span.first <= s.time && s.time <= span.last
 }
 
 pub fn matches(s: Subject, action: u8, g: Grant) -> bool
     ensures { result ≡ model.matches (view_subject s) action (view_grant g) }
 {
-    concerns(s, action, g) & during(g, s)
+    concerns(s, action, g) && during(g, s)
 }
 
 // Role and action are equal and the users share a user.
 pub fn alike(g: Grant, h: Grant) -> bool
     ensures { result ≡ model.alike (view_grant g) (view_grant h) }
 {
-    (g.role == h.role)
-        & ((g.action == h.action) & ((g.user == 0) | ((h.user == 0) | (g.user == h.user))))
+    g.role == h.role && g.action == h.action && (g.user == 0 || h.user == 0 || g.user == h.user)
 }
 
 // The intervals share a time.
@@ -64,13 +63,13 @@ pub fn overlap(g: Grant, h: Grant) -> bool
 {
     let s = g.span;
     let u = h.span;
-    (s.first <= u.last) & (u.first <= s.last)
+    s.first <= u.last && u.first <= s.last
 }
 
 pub fn clash(g: Grant, h: Grant) -> bool
     ensures { result ≡ model.clash (view_grant g) (view_grant h) }
 {
-    alike(g, h) & overlap(g, h)
+    alike(g, h) && overlap(g, h)
 }
 
 // All of a is in b.
@@ -86,16 +85,18 @@ pub fn spans(c: Grant, g: Grant) -> bool
 {
     let s = c.span;
     let u = g.span;
-    (s.first <= u.first) & (u.last <= s.last)
+    s.first <= u.first && u.last <= s.last
 }
 
 // Whether c lets the subject hand g on.
 pub fn covers(s: Subject, g: Grant, c: Grant) -> bool
     ensures { result ≡ model.covers (view_subject s) (view_grant g) (view_grant c) }
 {
-    let users = (c.user == 0) | (c.user == g.user);
-    let provisions = subset(c.messages, g.messages) & subset(c.agreements, g.agreements);
-    concerns(s, g.action, c) & (users & (spans(c, g) & provisions))
+    concerns(s, g.action, c)
+        && (c.user == 0 || c.user == g.user)
+        && spans(c, g)
+        && subset(c.messages, g.messages)
+        && subset(c.agreements, g.agreements)
 }
 
 // ---- the permissions of one object
@@ -109,12 +110,12 @@ fn of_object(t: &Permissions, p: Path, name: u16) -> &[Permission]
     let rows = &t.rows[..t.count];
     let first = rows.partition_point(|a| {
         let j = key(a.path);
-        (j < k) | ((j == k) & (a.name < name))
+        j < k || (j == k && a.name < name)
     });
     let rest = &rows[first..];
     let n = rest
         .iter()
-        .take_while(|a| (a.name == name) & (key(a.path) == k))
+        .take_while(|a| a.name == name && key(a.path) == k)
         .count();
     &rest[..n]
 }
@@ -183,7 +184,5 @@ pub fn cover_in(t: Permissions, p: Path, name: u16, s: Subject, g: Grant) -> boo
     requires { PermissionsSound t × PathSound p }
     ensures { result ≡ model.cover_any (view_subject s) (view_grant g) (permissions_in (steps p) name (view_permissions t)) }
 {
-    of_object(&t, p, name)
-        .iter()
-        .any(|a| covers(s, g, a.grant))
+    of_object(&t, p, name).iter().any(|a| covers(s, g, a.grant))
 }
