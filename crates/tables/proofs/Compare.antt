@@ -7,7 +7,10 @@ use native.Mathlib.Omega.{arith}
 use lib.IntN.{ℤ, pos, negsuc}
 use lib.Signed.{le_z, lt_z}
 use lib.Dec.{T, eqb, ltb, leb-zero}
-use borrow.Author.Tests.{ltb-true, ltb-false, le-ltb, eq-eqb, ne_eqb}
+use borrow.Author.Tests.{ltb-true, ltb-false, le-ltb, eq-eqb, ne_eqb, eqb-true, eqb-false}
+use Rattle.std.specs.Prelude.{cond, Some}
+use Rattle.std.proofs.Common.{Less, Equal, Greater}
+use Rattle.std.specs.Ordering.{is_lt, is_some_and, nat_cmp, partial_ordering_then}
 use Rattle.laws.specs.Order.{lex, lt_list}
 use Rattle.path.specs.declared.Path.{Path}
 use Rattle.path.specs.Address.{Address, same, before}
@@ -46,6 +49,35 @@ lexed_last j k = go (ltb j k) (ltb k j)
     go true d = refl
     go false true = refl
     go false false = refl
+
+-- two pairs of numbers, as the library compares them
+abbrev pub pair_lt : ℕ × ℕ → ℕ × ℕ → Bool
+pair_lt x y = is_some_and is_lt (partial_ordering_then (Some (nat_cmp x.0 y.0)) (Some (nat_cmp x.1 y.1)))
+
+nat_lt_is : (m n : ℕ) → is_lt (nat_cmp m n) ≡ ltb m n
+nat_lt_is m n = go (ltb m n) (eqb m n)
+  where
+    go : (b e : Bool) → is_lt (cond b Less (cond e Equal Greater)) ≡ b
+    go true e = refl
+    go false true = refl
+    go false false = refl
+
+pub lexed_pair : (j k m n : ℕ) → pair_lt (j, m) (k, n) ≡ lexed j k (ltb m n)
+lexed_pair j k m n = go (ltb j k) refl (eqb j k) refl (ltb k j) refl
+  where
+    go : (b : Bool) → ltb j k ≡ b → (e : Bool) → eqb j k ≡ e → (d : Bool) → ltb k j ≡ d
+        → is_some_and is_lt (partial_ordering_then (Some (cond b Less (cond e Equal Greater))) (Some (nat_cmp m n))) ≡ lex b d (ltb m n)
+    go true p e q d r = refl
+    go false p true q true r = let h = ltb-true k j r in let g = eqb-true j k q in absurd (omega arith)
+    go false p true q false r = nat_lt_is m n
+    go false p false q true r = refl
+    go false p false q false r = let h = ltb-false j k p in let g = ltb-false k j r in absurd (eqb-false j k q (omega arith))
+
+pub and_turned : (a b : Bool) → (a && b) ≡ (b && a)
+and_turned true true = refl
+and_turned true false = refl
+and_turned false true = refl
+and_turned false false = refl
 
 -- lists of numbers, the one less, the other less, or c
 abbrev listed : List ℕ → List ℕ → Bool → Bool
