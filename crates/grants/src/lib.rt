@@ -8,8 +8,9 @@ ghost use Rattle.model.specs.Moves.{permissions_in};
 ghost use Rattle.tables.specs.View.{view_grant, view_permissions, PermissionsSound};
 ghost use Rattle.grants.specs.View.{view_subject, decision_of, walk_of, weights_of};
 
-use path::{Path, key};
+use path::Path;
 use tables::order::same_grant;
+use tables::place::permissions_at;
 use tables::{Grant, Permission, Permissions};
 
 // Who asks, in which role, when.
@@ -101,25 +102,6 @@ pub fn covers(s: Subject, g: Grant, c: Grant) -> bool
 
 // ---- the permissions of one object
 
-// The object's permissions, which stand together: the first of them is found by halving.
-fn of_object(t: &Permissions, p: Path, name: u16) -> &[Permission]
-    requires { PermissionsSound t.now × PathSound p }
-    ensures { map (λ a. view_grant a.grant) result.now ≡ permissions_in (steps p) name (view_permissions t.now) }
-{
-    let k = key(p);
-    let rows = &t.rows[..t.count];
-    let first = rows.partition_point(|a| {
-        let j = key(a.path);
-        j < k || (j == k && a.name < name)
-    });
-    let rest = &rows[first..];
-    let n = rest
-        .iter()
-        .take_while(|a| a.name == name && key(a.path) == k)
-        .count();
-    &rest[..n]
-}
-
 // What the object's permissions give the subject, for each action that is granted by one: the first that matches.
 #[derive(Clone, Copy)]
 pub struct Walk {
@@ -143,7 +125,7 @@ pub fn walked(t: Permissions, p: Path, name: u16, s: Subject) -> Walk
     requires { PermissionsSound t × PathSound p }
     ensures { result ≡ walk_of (view_subject s) (permissions_in (steps p) name (view_permissions t)) }
 {
-    let rows = of_object(&t, p, name);
+    let rows = permissions_at(&t, p, name);
     Walk {
         read: given(rows, s, 1),
         change: given(rows, s, 2),
@@ -163,7 +145,7 @@ pub fn weighed(t: Permissions, p: Path, name: u16, s: Subject, g: Grant) -> Weig
     requires { PermissionsSound t × PathSound p }
     ensures { result ≡ weights_of (view_subject s) (view_grant g) (permissions_in (steps p) name (view_permissions t)) }
 {
-    let rows = of_object(&t, p, name);
+    let rows = permissions_at(&t, p, name);
     Weights {
         held: rows.iter().any(|a| same_grant(g, a.grant)),
         covered: rows.iter().any(|a| covers(s, g, a.grant)),
@@ -176,7 +158,9 @@ pub fn clash_in(t: Permissions, p: Path, name: u16, g: Grant) -> bool
     requires { PermissionsSound t × PathSound p }
     ensures { result ≡ model.clash_any (view_grant g) (permissions_in (steps p) name (view_permissions t)) }
 {
-    of_object(&t, p, name).iter().any(|a| clash(g, a.grant))
+    permissions_at(&t, p, name)
+        .iter()
+        .any(|a| clash(g, a.grant))
 }
 
 // Whether a permission of the object covers g for the subject.
@@ -184,5 +168,7 @@ pub fn cover_in(t: Permissions, p: Path, name: u16, s: Subject, g: Grant) -> boo
     requires { PermissionsSound t × PathSound p }
     ensures { result ≡ model.cover_any (view_subject s) (view_grant g) (permissions_in (steps p) name (view_permissions t)) }
 {
-    of_object(&t, p, name).iter().any(|a| covers(s, g, a.grant))
+    permissions_at(&t, p, name)
+        .iter()
+        .any(|a| covers(s, g, a.grant))
 }

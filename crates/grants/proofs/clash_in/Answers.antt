@@ -12,6 +12,6 @@ use Rattle.grants.proofs.clash_in.Goals as goal
 pub returns : goal.returns
 returns c =
     let g = view_grant c.args.g in
-    any_from_yields_List (λ a. model.clash g (view_grant a.grant)) _ _ _ c.any.ensures.ran (YieldsList-from_slice c.of_object.result.now cc) (λ x b q k. search (rules, tests))
-    ∙ any_told (λ a. view_grant a.grant) (model.clash g) (model.clash_any g) refl (λ x l. refl) c.of_object.result.now
-    ∙ ap (model.clash_any g) c.of_object.ensures
+    any_from_yields_List (λ a. model.clash g (view_grant a.grant)) _ _ _ c.any.ensures.ran (YieldsList-from_slice c.permissions_at.result.now cc) (λ x b q k. search (rules, tests))
+    ∙ any_told (λ a. view_grant a.grant) (model.clash g) (model.clash_any g) refl (λ x l. refl) c.permissions_at.result.now
+    ∙ ap (model.clash_any g) c.permissions_at.ensures

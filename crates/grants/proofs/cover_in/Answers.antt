@@ -14,6 +14,6 @@ pub returns : goal.returns
 returns c =
     let s = view_subject c.args.s in
     let g = view_grant c.args.g in
-    any_from_yields_List (λ a. model.covers s g (view_grant a.grant)) _ _ _ c.any.ensures.ran (YieldsList-from_slice c.of_object.result.now cc) (λ x b q k. search (rules, tests))
-    ∙ any_told (λ a. view_grant a.grant) (model.covers s g) (model.cover_any s g) refl (λ x l. refl) c.of_object.result.now
-    ∙ ap (model.cover_any s g) c.of_object.ensures
+    any_from_yields_List (λ a. model.covers s g (view_grant a.grant)) _ _ _ c.any.ensures.ran (YieldsList-from_slice c.permissions_at.result.now cc) (λ x b q k. search (rules, tests))
+    ∙ any_told (λ a. view_grant a.grant) (model.covers s g) (model.cover_any s g) refl (λ x l. refl) c.permissions_at.result.now
+    ∙ ap (model.cover_any s g) c.permissions_at.ensures
