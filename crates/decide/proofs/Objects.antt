@@ -8,6 +8,8 @@ use mathlib.Core.List.{List}
 use Prim.Native.Nat.{ℕ}
 use native.Mathlib.Omega.{arith}
 use lib.Dec.{eqb}
+use Rattle.std.specs.Prelude as std
+use Rattle.std.specs.Prelude.{Some, None}
 use Rattle.laws.specs.Slots.{pick}
 use Rattle.path.specs.Address.{Address}
 use Rattle.model.specs.Things.{Attribute, Permission, Dossier}
@@ -19,10 +21,9 @@ use Rattle.tables.specs.declared.Owner.TheVariants.{Nobody, User}
 use Rattle.tables.specs.declared.Found.{Found}
 use Rattle.tables.specs.declared.Found.TheVariants.{Absent, Present}
 use Rattle.tables.specs.View.{owner_of, found_of}
-use Rattle.grants.specs.declared.Decision.{Decision}
-use Rattle.grants.specs.declared.Decision.TheVariants.{Denied, Granted}
 use Rattle.grants.specs.View.{decision_of, view_decision}
-use Rattle.decide.specs.View.{object_owner, found_owner, object_owned, owned_or, there_or}
+use Rattle.grants.specs.declared.Provisions as grants
+use Rattle.decide.specs.View.{no_provisions, object_owner, found_owner, object_owned, owned_or, there_or}
 
 -- nobody is no user: whoever owns is not nobody, whatever number stands in a blank row
 pub nobody_no_user : {u : ℕ} → Nobody ≡ User u → ⊥
@@ -74,11 +75,11 @@ of_attribute_lem p d {n} e = rw (ne_eqb n 0 e) (attribute_owner p n d)
 
 -- ---- what is granted
 module _ (f : Object → Option Provisions) where
-  on_nobody : (o : Option Object) → Nobody ≡ object_owner o → Denied ≡ decision_of (given f o)
+  on_nobody : (o : Option Object) → Nobody ≡ object_owner o → None ≡ decision_of (given f o)
   on_nobody none e = refl
   on_nobody (some o) e = absurd (nobody_no_user e)
 
-  on_user : (l : List Permission) (o : Option Object) {u : ℕ} {r : Decision} → With l o → User u ≡ object_owner o
+  on_user : (l : List Permission) (o : Option Object) {u : ℕ} {r : std.Option grants.Provisions} → With l o → User u ≡ object_owner o
       → r ≡ decision_of (f (record { owner = u; permissions = l })) → r ≡ decision_of (given f o)
   on_user l none w e h = absurd (nobody_no_user (sym e))
   on_user l (some o) {u} w e h =
@@ -87,32 +88,32 @@ module _ (f : Object → Option Provisions) where
 
   -- a lookup answers a, which says whose the object is
   module _ (p : Address) (d : Dossier) {a : Owner} (e : a ≡ owner_of (owner_in p d.nodes)) where
-    pub no_node : a ≡ Nobody → Denied ≡ decision_of (given f (node_at p d))
+    pub no_node : a ≡ Nobody → None ≡ decision_of (given f (node_at p d))
     no_node h = on_nobody (node_at p d) (sym h ∙ e ∙ node_owner p d)
 
-    pub on_node : {u : ℕ} {r : Decision} → a ≡ User u → r ≡ decision_of (f (record { owner = u; permissions = permissions_in p 0 d.permissions })) → r ≡ decision_of (given f (node_at p d))
+    pub on_node : {u : ℕ} {r : std.Option grants.Provisions} → a ≡ User u → r ≡ decision_of (f (record { owner = u; permissions = permissions_in p 0 d.permissions })) → r ≡ decision_of (given f (node_at p d))
     on_node h = on_user (permissions_in p 0 d.permissions) (node_at p d) (node_with p d) (sym h ∙ e ∙ node_owner p d)
 
   module _ (p : Address) (n : ℕ) (d : Dossier) {a : Found} (e : a ≡ found_of (attribute_in p n d.attributes)) where
-    pub no_attribute : a ≡ Absent → Denied ≡ decision_of (given f (attribute_object p n d))
+    pub no_attribute : a ≡ Absent → None ≡ decision_of (given f (attribute_object p n d))
     no_attribute h = on_nobody (attribute_object p n d) (ap found_owner (sym h ∙ e) ∙ attribute_owner p n d)
 
-    pub on_attribute : {u : ℕ} {v : Value} {r : Decision} → a ≡ Present u v → r ≡ decision_of (f (record { owner = u; permissions = permissions_in p n d.permissions }))
+    pub on_attribute : {u : ℕ} {v : Value} {r : std.Option grants.Provisions} → a ≡ Present u v → r ≡ decision_of (f (record { owner = u; permissions = permissions_in p n d.permissions }))
         → r ≡ decision_of (given f (attribute_object p n d))
     on_attribute h = on_user (permissions_in p n d.permissions) (attribute_object p n d) (attribute_with p n d) (ap found_owner (sym h ∙ e) ∙ attribute_owner p n d)
 
   module _ (p : Address) (n : ℕ) (d : Dossier) {a : Owner} (e : a ≡ object_owner (object_at p n d)) where
-    pub no_object : a ≡ Nobody → Denied ≡ decision_of (given f (object_at p n d))
+    pub no_object : a ≡ Nobody → None ≡ decision_of (given f (object_at p n d))
     no_object h = on_nobody (object_at p n d) (sym h ∙ e)
 
-    pub on_object : {u : ℕ} {r : Decision} → a ≡ User u → r ≡ decision_of (f (record { owner = u; permissions = permissions_in p n d.permissions })) → r ≡ decision_of (given f (object_at p n d))
+    pub on_object : {u : ℕ} {r : std.Option grants.Provisions} → a ≡ User u → r ≡ decision_of (f (record { owner = u; permissions = permissions_in p n d.permissions })) → r ≡ decision_of (given f (object_at p n d))
     on_object h = on_user (permissions_in p n d.permissions) (object_at p n d) (object_with p n d) (sym h ∙ e)
 
 -- "the user owns it (no provisions), or" the rest
-pub owning : {a u : ℕ} (rest : Option Provisions) → a ≡ u → Granted 0 0 ≡ decision_of (pick (eqb a u) (some nothing) rest)
+pub owning : {a u : ℕ} (rest : Option Provisions) → a ≡ u → Some no_provisions ≡ decision_of (pick (eqb a u) (some nothing) rest)
 owning {a} {u} rest e = rw (eq-eqb a u e)
 
-pub not_owning : {a u : ℕ} {r : Decision} (rest : Option Provisions) → (a ≡ u → ⊥) → r ≡ decision_of rest → r ≡ decision_of (pick (eqb a u) (some nothing) rest)
+pub not_owning : {a u : ℕ} {r : std.Option grants.Provisions} (rest : Option Provisions) → (a ≡ u → ⊥) → r ≡ decision_of rest → r ≡ decision_of (pick (eqb a u) (some nothing) rest)
 not_owning {a} {u} rest e h = rw (ne_eqb a u e) h
 
 -- ---- both
@@ -120,7 +121,7 @@ decision_seen : (x : Option Provisions) → view_decision (decision_of x) ≡ x
 decision_seen none = refl
 decision_seen (some x) = refl
 
-pub both_joined : {a b r : Decision} (x y : Option Provisions) → r ≡ decision_of (joined (view_decision a) (view_decision b)) → a ≡ decision_of x → b ≡ decision_of y → r ≡ decision_of (joined x y)
+pub both_joined : {a b r : std.Option grants.Provisions} (x y : Option Provisions) → r ≡ decision_of (joined (view_decision a) (view_decision b)) → a ≡ decision_of x → b ≡ decision_of y → r ≡ decision_of (joined x y)
 both_joined x y e h k = e ∙ ap₂ (λ v w. decision_of (joined v w)) (ap view_decision h ∙ decision_seen x) (ap view_decision k ∙ decision_seen y)
 
 -- ---- objects from their owners
@@ -144,7 +145,7 @@ pub owned_given : (user : ℕ) (rest : List Permission → Option Provisions) (w
 owned_given user rest Nobody l = refl
 owned_given user rest (User u) l = go (eqb user u)
   where
-    go : (b : Bool) → pick b (Granted 0 0) (decision_of (rest l)) ≡ decision_of (pick b (some nothing) (rest l))
+    go : (b : Bool) → pick b (Some no_provisions) (decision_of (rest l)) ≡ decision_of (pick b (some nothing) (rest l))
     go true = refl
     go false = refl
 

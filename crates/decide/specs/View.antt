@@ -1,6 +1,7 @@
 -- The structs of this crate and the model.
 use Rattle.std.proofs.Math.Option.{Option, none, some}
-use Rattle.std.specs.Prelude.{List, [], ◌∷◌, ℕ, pos, eqb}
+use Rattle.std.specs.Prelude as std
+use Rattle.std.specs.Prelude.{List, [], ◌∷◌, ℕ, pos, eqb, Some, None}
 use Rattle.laws.specs.Slots.{pick}
 use Rattle.path.specs.Address.{Address, parent}
 use Rattle.path.specs.View.{steps}
@@ -13,8 +14,7 @@ use Rattle.tables.specs.declared.Owner.TheVariants.{Nobody, User}
 use Rattle.tables.specs.declared.Found as tables
 use Rattle.tables.specs.declared.Found.TheVariants.{Absent, Present}
 use Rattle.tables.specs.View.{owner_of, found_of}
-use Rattle.grants.specs.declared.Decision.{Decision}
-use Rattle.grants.specs.declared.Decision.TheVariants.{Denied, Granted}
+use Rattle.grants.specs.declared.Provisions.{Provisions}
 use Rattle.grants.specs.declared.Walk.{Walk}
 use Rattle.grants.specs.View.{decision_of, walk_of}
 use Rattle.decide.specs.declared.Asked.{Asked}
@@ -69,19 +69,27 @@ found_by r o l =
     needed (object_owned o.node (permissions_in r.path 0 l)) (object_owned o.parent (permissions_in (parent r.path) 0 l))
     (object_owned o.attribute (permissions_in r.path r.name l))
 
+-- "no provisions"
+abbrev pub no_provisions : Provisions
+no_provisions = record { messages = 0; agreements = 0 }
+
+-- "the user owns it (no provisions)"
+abbrev pub owned : ℕ → ℕ → std.Option Provisions
+owned u user = pick (eqb user u) (Some no_provisions) None
+
 -- "the user owns it (no provisions), or" what the permissions give
-abbrev pub owned_or : Owner → ℕ → Decision → Decision
-owned_or Nobody user d = Denied
-owned_or (User u) user d = pick (eqb user u) (Granted 0 0) d
+abbrev pub owned_or : Owner → ℕ → std.Option Provisions → std.Option Provisions
+owned_or Nobody user d = None
+owned_or (User u) user d = pick (eqb user u) (Some no_provisions) d
 
 -- "owning does not help"
-abbrev pub there_or : Owner → Decision → Decision
-there_or Nobody d = Denied
+abbrev pub there_or : Owner → std.Option Provisions → std.Option Provisions
+there_or Nobody d = None
 there_or (User u) d = d
 
 -- what no permission gives
 abbrev pub no_walk : Walk
-no_walk = record { read = Denied; change = Denied; delegate = Denied }
+no_walk = record { read = None; change = None; delegate = None }
 
 -- what the permissions give the request on the object that it reads or delegates on, and on the node that it changes
 abbrev pub object_walk : Request → List (Row (ℕ × Permission)) → Walk
@@ -91,12 +99,12 @@ object_walk r l =
     ∷ (2 ∷ 10 ∷ 11 ∷ 12 ∷ 16 ∷ [], walk_of (subject r) (permissions_in r.path r.name l))
     ∷ [])
 
-abbrev pub change_for : model.Subject → List Permission → Decision
+abbrev pub change_for : model.Subject → List Permission → std.Option Provisions
 change_for s l = decision_of (model.joined (model.matched s 1 l) (model.matched s 2 l))
 
-abbrev pub change_given : Request → List (Row (ℕ × Permission)) → Decision
+abbrev pub change_given : Request → List (Row (ℕ × Permission)) → std.Option Provisions
 change_given r l =
-    choose r.number Denied
+    choose r.number None
     ((3 ∷ 4 ∷ 6 ∷ 7 ∷ 17 ∷ [], change_for (subject r) (permissions_in (parent r.path) 0 l))
     ∷ (8 ∷ 9 ∷ 10 ∷ 12 ∷ 13 ∷ [], change_for (subject r) (permissions_in r.path 0 l))
     ∷ [])

@@ -12,9 +12,9 @@ ghost use Rattle.model.specs.Refusals as refusals;
 ghost use Rattle.model.specs.Run as run;
 ghost use Rattle.tables.specs.View.{view_dossier, DossierFits, view_nodes, NodesSound, view_attributes, AttributesSound, view_permissions, PermissionsSound};
 ghost use Rattle.grants.specs.View.{view_subject, decision_of, view_decision};
-ghost use Rattle.decide.specs.View.{view_asked, object_owner, found_owner, owners_in, found_by, owned_or, there_or, no_walk, object_walk, change_given};
+ghost use Rattle.decide.specs.View.{view_asked, object_owner, found_owner, owners_in, found_by, owned, owned_or, there_or, no_walk, object_walk, change_given};
 
-use grants::{Decision, Subject, Walk, walked};
+use grants::{Provisions, Subject, Walk, walked};
 use lookups::{attribute_in, owner_in};
 use path::{Path, parent_of};
 use tables::{Attributes, Dossier, Found, Nodes, Owner, Permissions};
@@ -29,68 +29,59 @@ pub struct Asked {
 }
 
 // Both must be granted, and the provisions are joined.
-pub fn joined(a: Decision, b: Decision) -> Decision
+pub fn joined(a: Option<Provisions>, b: Option<Provisions>) -> Option<Provisions>
     ensures { result ≡ decision_of (model.joined (view_decision a) (view_decision b)) }
 {
-    match a {
-        Decision::Denied => Decision::Denied,
-        Decision::Granted(m, g) => match b {
-            Decision::Denied => Decision::Denied,
-            Decision::Granted(n, h) => Decision::Granted(m | n, g | h),
-        },
-    }
+    let (a, b) = a.zip(b)?;
+    Some(Provisions {
+        messages: a.messages | b.messages,
+        agreements: a.agreements | b.agreements,
+    })
+}
+
+// The user owns it: no provisions.
+fn owned(owner: u8, user: u8) -> Option<Provisions>
+    ensures { result ≡ owned owner user }
+{
+    (user == owner).then_some(Provisions {
+        messages: 0,
+        agreements: 0,
+    })
 }
 
 // Read of the node at p.
-pub fn read_node(d: Dossier, p: Path, s: Subject) -> Decision
+pub fn read_node(d: Dossier, p: Path, s: Subject) -> Option<Provisions>
     requires { DossierFits d × PathSound p }
     ensures { result ≡ decision_of (model.given (model.read_by (view_subject s)) (node_at (steps p) (view_dossier d))) }
 {
     match owner_in(d.nodes, p) {
-        Owner::Nobody => Decision::Denied,
-        Owner::User(u) => {
-            if s.user == u {
-                return Decision::Granted(0, 0);
-            }
-            let w = walked(d.permissions, p, 0, s);
-            w.read
-        }
+        Owner::Nobody => None,
+        Owner::User(u) => owned(u, s.user).or_else(|| walked(d.permissions, p, 0, s).read),
     }
 }
 
 // Change of the node at p.
-pub fn change_node(d: Dossier, p: Path, s: Subject) -> Decision
+pub fn change_node(d: Dossier, p: Path, s: Subject) -> Option<Provisions>
     requires { DossierFits d × PathSound p }
     ensures { result ≡ decision_of (model.given (model.change_by (view_subject s)) (node_at (steps p) (view_dossier d))) }
 {
     match owner_in(d.nodes, p) {
-        Owner::Nobody => Decision::Denied,
-        Owner::User(u) => {
-            if s.user == u {
-                return Decision::Granted(0, 0);
-            }
+        Owner::Nobody => None,
+        Owner::User(u) => owned(u, s.user).or_else(|| {
             let w = walked(d.permissions, p, 0, s);
-            let read = w.read;
-            let change = w.change;
-            joined(read, change)
-        }
+            joined(w.read, w.change)
+        }),
     }
 }
 
 // Read of the attribute of that name at p.
-pub fn read_attribute(d: Dossier, p: Path, name: u16, s: Subject) -> Decision
+pub fn read_attribute(d: Dossier, p: Path, name: u16, s: Subject) -> Option<Provisions>
     requires { DossierFits d × PathSound p }
     ensures { result ≡ decision_of (model.given (model.read_by (view_subject s)) (attribute_object (steps p) name (view_dossier d))) }
 {
     match attribute_in(d.attributes, p, name) {
-        Found::Absent => Decision::Denied,
-        Found::Present(u, _) => {
-            if s.user == u {
-                return Decision::Granted(0, 0);
-            }
-            let w = walked(d.permissions, p, name, s);
-            w.read
-        }
+        Found::Absent => None,
+        Found::Present(u, _) => owned(u, s.user).or_else(|| walked(d.permissions, p, name, s).read),
     }
 }
 
@@ -116,32 +107,24 @@ pub fn owner_of(d: Dossier, p: Path, name: u16) -> Owner
 }
 
 // Owning the object.
-pub fn own(d: Dossier, p: Path, name: u16, s: Subject) -> Decision
+pub fn own(d: Dossier, p: Path, name: u16, s: Subject) -> Option<Provisions>
     requires { DossierFits d × PathSound p }
     ensures { result ≡ decision_of (model.given (model.own_by (view_subject s)) (object_at (steps p) name (view_dossier d))) }
 {
     match owner_of(d, p, name) {
-        Owner::Nobody => Decision::Denied,
-        Owner::User(u) => {
-            if s.user == u {
-                return Decision::Granted(0, 0);
-            }
-            Decision::Denied
-        }
+        Owner::Nobody => None,
+        Owner::User(u) => owned(u, s.user),
     }
 }
 
 // A delegate permission on the object that matches; owning does not help.
-pub fn delegate(d: Dossier, p: Path, name: u16, s: Subject) -> Decision
+pub fn delegate(d: Dossier, p: Path, name: u16, s: Subject) -> Option<Provisions>
     requires { DossierFits d × PathSound p }
     ensures { result ≡ decision_of (model.given (model.delegate_by (view_subject s)) (object_at (steps p) name (view_dossier d))) }
 {
     match owner_of(d, p, name) {
-        Owner::Nobody => Decision::Denied,
-        Owner::User(_) => {
-            let w = walked(d.permissions, p, name, s);
-            w.delegate
-        }
+        Owner::Nobody => None,
+        Owner::User(_) => walked(d.permissions, p, name, s).delegate,
     }
 }
 
@@ -170,26 +153,21 @@ fn owners_in(n: Nodes, t: Attributes, p: Path, name: u16) -> Owners
 }
 
 // The user owns it (no provisions), or what the permissions give.
-fn owned_or(o: Owner, user: u8, d: Decision) -> Decision
+fn owned_or(o: Owner, user: u8, d: Option<Provisions>) -> Option<Provisions>
     ensures { result ≡ owned_or o user d }
 {
     match o {
-        Owner::Nobody => Decision::Denied,
-        Owner::User(u) => {
-            if user == u {
-                return Decision::Granted(0, 0);
-            }
-            d
-        }
+        Owner::Nobody => None,
+        Owner::User(u) => owned(u, user).or(d),
     }
 }
 
 // What the permissions give on what is there; owning does not help.
-fn there_or(o: Owner, d: Decision) -> Decision
+fn there_or(o: Owner, d: Option<Provisions>) -> Option<Provisions>
     ensures { result ≡ there_or o d }
 {
     match o {
-        Owner::Nobody => Decision::Denied,
+        Owner::Nobody => None,
         Owner::User(_) => d,
     }
 }
@@ -207,11 +185,7 @@ pub fn object_owner(o: Owners, name: u16) -> Owner
 fn no_walk() -> Walk
     ensures { result ≡ no_walk }
 {
-    Walk {
-        read: Decision::Denied,
-        change: Decision::Denied,
-        delegate: Decision::Denied,
-    }
+    Walk::default()
 }
 
 fn name_for(node: bool, name: u16) -> u16
@@ -248,7 +222,7 @@ fn node_for(above: bool, p: Path) -> Path
 }
 
 // What the permissions of the node that the request changes give: "one permission matches for read and one for change".
-fn change_given(t: Permissions, a: Asked) -> Decision
+fn change_given(t: Permissions, a: Asked) -> Option<Provisions>
     requires { PermissionsSound t × PathSound a.path }
     ensures { result ≡ change_given (view_asked a) (view_permissions t) }
 {
@@ -257,16 +231,14 @@ fn change_given(t: Permissions, a: Asked) -> Decision
     let here = (n == 8) | ((n == 9) | ((n == 10) | ((n == 12) | (n == 13))));
     if above | here {
         let w = walked(t, node_for(above, a.path), 0, a.subject);
-        let read = w.read;
-        let change = w.change;
-        return joined(read, change);
+        return joined(w.read, w.change);
     }
-    Decision::Denied
+    None
 }
 
 // What the table of the calls has beside the number. Numbers that follow one another have an arm each: in one arm they would be
 // tested as a range.
-pub fn rights(a: Asked, o: Owners, t: Permissions) -> Decision
+pub fn rights(a: Asked, o: Owners, t: Permissions) -> Option<Provisions>
     requires { PermissionsSound t × PathSound a.path }
     ensures { result ≡ decision_of (refusals.granted (view_asked a) (found_by (view_asked a) o (view_permissions t))) }
 {
@@ -293,14 +265,14 @@ pub fn rights(a: Asked, o: Owners, t: Permissions) -> Decision
             owned_or(attribute, user, read),
             owned_or(node, user, change),
         ),
-        14 => owned_or(object, user, Decision::Denied),
-        15 => owned_or(object, user, Decision::Denied),
+        14 => owned_or(object, user, None),
+        15 => owned_or(object, user, None),
         16 => there_or(object, delegate),
-        _ => Decision::Denied,
+        _ => None,
     }
 }
 
-pub fn granted(a: Asked, d: Dossier) -> Decision
+pub fn granted(a: Asked, d: Dossier) -> Option<Provisions>
     requires { DossierFits d × PathSound a.path }
     ensures { result ≡ decision_of (refusals.granted (view_asked a) (run.found (view_asked a) (view_dossier d))) }
 {

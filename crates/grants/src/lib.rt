@@ -103,7 +103,7 @@ pub fn covers(s: Subject, g: Grant, c: Grant) -> bool
 // ---- the permissions of one object
 
 // What the object's permissions give the subject, for each action that is granted by one: the first that matches.
-#[derive(Clone, Copy)]
+#[derive(Clone, Copy, Default)]
 pub struct Walk {
     pub read: Option<Provisions>,
     pub change: Option<Provisions>,
