@@ -42,9 +42,6 @@ module _ (a : Asked) (o : Owners) (l : List (Row (ℕ × Permission))) where
     reads u n f h =
         h ∙ ap (owned_or u a.subject.user) (ap (λ (x : Walk). x.read) walk_at ∙ f) ∙ owned_given a.subject.user (model.matched subject 1) u (permissions_in (steps a.path) n l)
 
-    pub delegates : w.delegate ≡ (object_walk (numbered a k) l).delegate
-    delegates = ap (λ (x : Walk). x.delegate) walk_at
-
   -- d: what the permissions of the node give whose permissions are m
   pub changes : {d : std.Option Provisions} → d ≡ change_given (view_asked a) l → {k : ℕ} → a.number ≡ k → (u : Owner) (m : List Permission) {r : std.Option Provisions}
       → change_given (numbered a k) l ≡ decision_of (model.joined (model.matched subject 1 m) (model.matched subject 2 m))

@@ -10,8 +10,8 @@ use Rattle.decide.specs.View.{found_owner}
 use Rattle.decide.specs.declared.Owners.{Owners}
 use Rattle.decide.proofs.owners_in.Goals as goal
 
-pub owner_in-parent-requires : goal.owner_in-parent-requires
-owner_in-parent-requires c = (c.requires.0, parent_sound c.requires.2 c.parent_of.ensures)
+pub owner_in-requires-2 : goal.owner_in-requires-2
+owner_in-requires-2 c = (c.requires.0, parent_sound c.requires.2 c.parent_of.ensures)
 
 abbrev made : Owner → Owner → Owner → Owners
 made node above attribute = record { node = node; parent = above; attribute = attribute }
@@ -19,5 +19,5 @@ made node above attribute = record { node = node; parent = above; attribute = at
 pub returns : goal.returns
 returns c =
     let a = c.args in
-    let up = c.owner_in-parent.ensures ∙ ap (λ (p : Address). owner_of (owner_in p (view_nodes a.n))) (ap steps c.parent_of.ensures ∙ view_path (parent (steps a.p))) in
-    λ i. made (c.owner_in-node.ensures i) (up i) ((c.owner_found-attribute.ensures ∙ ap found_owner c.attribute_in.ensures) i)
+    let up = c.owner_in-2.ensures ∙ ap (λ (p : Address). owner_of (owner_in p (view_nodes a.n))) (ap steps c.parent_of.ensures ∙ view_path (parent (steps a.p))) in
+    λ i. made (c.owner_in.ensures i) (up i) ((c.owner_found.ensures ∙ ap found_owner c.attribute_in.ensures) i)
