@@ -16,14 +16,11 @@ use Rattle.tables.specs.declared.Owner.{Owner}
 use Rattle.tables.specs.declared.Owner.TheVariants.{Nobody, User}
 use Rattle.tables.specs.View.{owner_of, found_of}
 use Rattle.grants.specs.View.{decision_of, view_decision}
+use Rattle.grants.proofs.Told.{decision_seen}
 use Rattle.grants.specs.declared.Provisions as grants
 use Rattle.decide.specs.View.{no_provisions, found_owner, object_owned, owned_or}
 
 -- ---- both
-decision_seen : (x : Option Provisions) → view_decision (decision_of x) ≡ x
-decision_seen none = refl
-decision_seen (some x) = refl
-
 pub both_joined : {a b r : std.Option grants.Provisions} (x y : Option Provisions) → r ≡ decision_of (joined (view_decision a) (view_decision b)) → a ≡ decision_of x → b ≡ decision_of y → r ≡ decision_of (joined x y)
 both_joined x y e h k = e ∙ ap₂ (λ v w. decision_of (joined v w)) (ap view_decision h ∙ decision_seen x) (ap view_decision k ∙ decision_seen y)
 

@@ -43,10 +43,7 @@ pub fn joined(a: Option<Provisions>, b: Option<Provisions>) -> Option<Provisions
 fn owned(owner: u8, user: u8) -> Option<Provisions>
     ensures { result ≡ owned owner user }
 {
-    (user == owner).then_some(Provisions {
-        messages: 0,
-        agreements: 0,
-    })
+    (user == owner).then_some(Provisions::default())
 }
 
 // Read of the node at p.

@@ -1,7 +1,7 @@
--- What a walk over a list of permissions tells: whether one of them is such, and the first that matches. Assumes nothing.
+-- What a decision means, and what a walk over a list of permissions tells: whether one of them is such, and the first that matches. Assumes nothing.
 use mathlib.Core.Path.{◌≡◌, refl, sym, ◌∙◌}
 use mathlib.Core.Bool.{Bool, true, false, cond, ◌||◌}
-use mathlib.Core.Option.{some}
+use mathlib.Core.Option.{Option, none, some}
 use mathlib.Core.List.{List, [], ◌∷◌, map}
 use Prim.Native.Nat.{ℕ}
 use Rattle.std.specs.Prelude.{Some, option_map}
@@ -11,8 +11,14 @@ use Rattle.model.specs.Decide as model
 use Rattle.tables.specs.declared.Permission.{Permission}
 use Rattle.tables.specs.View.{view_grant}
 use Rattle.grants.specs.declared.Provisions.{Provisions}
-use Rattle.grants.specs.View.{decision_of}
+use Rattle.grants.specs.View.{decision_of, view_decision}
 
+-- ---- decisions and what they mean
+pub decision_seen : (o : Option model.Provisions) → view_decision (decision_of o) ≡ o
+decision_seen none = refl
+decision_seen (some p) = refl
+
+-- ---- a walk
 -- G says whether f holds of one of a list
 pub any_told : {A B : Type 0} (v : A → B) (f : B → Bool) (G : List B → Bool) → G [] ≡ false → ((x : B) (l : List B) → G (x ∷ l) ≡ pick (f x) true (G l))
     → (l : List A) → list_any (λ a. f (v a)) l ≡ G (map v l)

@@ -22,7 +22,7 @@ pub struct Subject {
 }
 
 // What a permission asks of who uses it: the messages to log and the agreements to be signed.
-#[derive(Clone, Copy)]
+#[derive(Clone, Copy, Default)]
 pub struct Provisions {
     pub messages: u32,
     pub agreements: u32,
