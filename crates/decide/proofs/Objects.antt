@@ -12,8 +12,6 @@ use Rattle.path.specs.Address.{Address}
 use Rattle.model.specs.Things.{Attribute, Permission, Dossier}
 use Rattle.model.specs.Decide.{Provisions, nothing, given, joined}
 use Rattle.model.specs.Moves.{owner_in, permissions_in, attribute_in, node_at, attribute_object}
-use Rattle.tables.specs.declared.Owner.{Owner}
-use Rattle.tables.specs.declared.Owner.TheVariants.{Nobody, User}
 use Rattle.tables.specs.View.{owner_of, found_of}
 use Rattle.grants.specs.View.{decision_of, view_decision}
 use Rattle.grants.proofs.Told.{decision_seen}
@@ -40,10 +38,10 @@ attribute_owned p n d = go (attribute_in p n d.attributes)
     go (some a) = refl
 
 -- rest is what the permissions give, of an object that its owner may use without
-pub owned_given : (user : ℕ) (rest : List Permission → Option Provisions) (w : Owner) (l : List Permission)
+pub owned_given : (user : ℕ) (rest : List Permission → Option Provisions) (w : std.Option ℕ) (l : List Permission)
     → owned_or w user (decision_of (rest l)) ≡ decision_of (given (λ o. pick (eqb user o.owner) (some nothing) (rest o.permissions)) (object_owned w l))
-owned_given user rest Nobody l = refl
-owned_given user rest (User u) l = go (eqb user u)
+owned_given user rest None l = refl
+owned_given user rest (Some u) l = go (eqb user u)
   where
     go : (b : Bool) → pick b (Some no_provisions) (decision_of (rest l)) ≡ decision_of (pick b (some nothing) (rest l))
     go true = refl

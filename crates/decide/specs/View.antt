@@ -9,10 +9,7 @@ use Rattle.model.specs.Things.{whole, Permission, Attribute, Row}
 use Rattle.model.specs.Decide as model
 use Rattle.model.specs.Moves.{owner_in, attribute_in, permissions_in}
 use Rattle.model.specs.Refusals.{Request, Found, choose, subject}
-use Rattle.tables.specs.declared.Owner.{Owner}
-use Rattle.tables.specs.declared.Owner.TheVariants.{Nobody, User}
 use Rattle.tables.specs.declared.Found as tables
-use Rattle.tables.specs.declared.Found.TheVariants.{Absent, Present}
 use Rattle.tables.specs.View.{owner_of, found_of}
 use Rattle.grants.specs.declared.Provisions.{Provisions}
 use Rattle.grants.specs.declared.Walk.{Walk}
@@ -21,9 +18,9 @@ use Rattle.decide.specs.declared.Asked.{Asked}
 use Rattle.decide.specs.declared.Owners.{Owners}
 
 -- whose an object is
-abbrev pub object_owner : Option model.Object → Owner
-object_owner none = Nobody
-object_owner (some o) = User o.owner
+abbrev pub object_owner : Option model.Object → std.Option ℕ
+object_owner none = None
+object_owner (some o) = Some o.owner
 
 -- a request as far as its needs look at it: value and permission play no part in them
 abbrev pub no_grant : Permission
@@ -45,18 +42,18 @@ view_asked a =
 
 -- ---- the needs, by halves
 -- an attribute's owner, of what a lookup answers
-abbrev pub found_owner : tables.Found → Owner
-found_owner Absent = Nobody
-found_owner (Present u v) = User u
+abbrev pub found_owner : std.Option tables.Found → std.Option ℕ
+found_owner None = None
+found_owner (Some f) = Some f.owner
 
 abbrev pub owners_in : Address → ℕ → List (Row ℕ) → List (Row Attribute) → Owners
 owners_in p n nodes attributes =
     record { node = owner_of (owner_in p nodes); parent = owner_of (owner_in (parent p) nodes); attribute = found_owner (found_of (attribute_in p n attributes)) }
 
 -- an object from whose it is and its permissions
-abbrev pub object_owned : Owner → List Permission → Option model.Object
-object_owned Nobody l = none
-object_owned (User u) l = some (record { owner = u; permissions = l })
+abbrev pub object_owned : std.Option ℕ → List Permission → Option model.Object
+object_owned None l = none
+object_owned (Some u) l = some (record { owner = u; permissions = l })
 
 -- what the needs look at, of all that an editor finds
 abbrev pub needed : Option model.Object → Option model.Object → Option model.Object → Found
@@ -78,14 +75,9 @@ abbrev pub owned : ℕ → ℕ → std.Option Provisions
 owned u user = pick (eqb user u) (Some no_provisions) None
 
 -- "the user owns it (no provisions), or" what the permissions give
-abbrev pub owned_or : Owner → ℕ → std.Option Provisions → std.Option Provisions
-owned_or Nobody user d = None
-owned_or (User u) user d = pick (eqb user u) (Some no_provisions) d
-
--- "owning does not help"
-abbrev pub there_or : Owner → std.Option Provisions → std.Option Provisions
-there_or Nobody d = None
-there_or (User u) d = d
+abbrev pub owned_or : std.Option ℕ → ℕ → std.Option Provisions → std.Option Provisions
+owned_or None user d = None
+owned_or (Some u) user d = pick (eqb user u) (Some no_provisions) d
 
 -- what no permission gives
 abbrev pub no_walk : Walk

@@ -12,12 +12,12 @@ ghost use Rattle.model.specs.Refusals as refusals;
 ghost use Rattle.model.specs.Run as run;
 ghost use Rattle.tables.specs.View.{view_dossier, DossierFits, view_nodes, NodesSound, view_attributes, AttributesSound, view_permissions, PermissionsSound};
 ghost use Rattle.grants.specs.View.{view_subject, decision_of, view_decision};
-ghost use Rattle.decide.specs.View.{view_asked, object_owner, found_owner, owners_in, found_by, owned, owned_or, there_or, object_walk, change_for, change_given};
+ghost use Rattle.decide.specs.View.{view_asked, object_owner, found_owner, owners_in, found_by, owned, owned_or, object_walk, change_for, change_given};
 
 use grants::{Provisions, Subject, Walk, walked};
 use lookups::{attribute_in, owner_in};
 use path::{Path, parent_of};
-use tables::{Attributes, Dossier, Found, Nodes, Owner, Permissions};
+use tables::{Attributes, Dossier, Found, Nodes, Permissions};
 
 // What a request's needs look at.
 #[derive(Clone, Copy)]
@@ -51,10 +51,7 @@ pub fn read_node(d: Dossier, p: Path, s: Subject) -> Option<Provisions>
     requires { DossierFits d × PathSound p }
     ensures { result ≡ decision_of (model.given (model.read_by (view_subject s)) (node_at (steps p) (view_dossier d))) }
 {
-    match owner_in(d.nodes, p) {
-        Owner::Nobody => None,
-        Owner::User(u) => owned(u, s.user).or_else(|| walked(d.permissions, p, 0, s).read),
-    }
+    owned(owner_in(d.nodes, p)?, s.user).or_else(|| walked(d.permissions, p, 0, s).read)
 }
 
 // Change of the node at p.
@@ -62,10 +59,7 @@ pub fn change_node(d: Dossier, p: Path, s: Subject) -> Option<Provisions>
     requires { DossierFits d × PathSound p }
     ensures { result ≡ decision_of (model.given (model.change_by (view_subject s)) (node_at (steps p) (view_dossier d))) }
 {
-    match owner_in(d.nodes, p) {
-        Owner::Nobody => None,
-        Owner::User(u) => owned(u, s.user).or_else(|| change_by(d.permissions, p, s)),
-    }
+    owned(owner_in(d.nodes, p)?, s.user).or_else(|| change_by(d.permissions, p, s))
 }
 
 // Read of the attribute of that name at p.
@@ -73,24 +67,19 @@ pub fn read_attribute(d: Dossier, p: Path, name: u16, s: Subject) -> Option<Prov
     requires { DossierFits d × PathSound p }
     ensures { result ≡ decision_of (model.given (model.read_by (view_subject s)) (attribute_object (steps p) name (view_dossier d))) }
 {
-    match attribute_in(d.attributes, p, name) {
-        Found::Absent => None,
-        Found::Present(u, _) => owned(u, s.user).or_else(|| walked(d.permissions, p, name, s).read),
-    }
+    let owner = attribute_in(d.attributes, p, name)?.owner;
+    owned(owner, s.user).or_else(|| walked(d.permissions, p, name, s).read)
 }
 
 // Whose the attribute is that was looked for.
-pub fn owner_found(f: Found) -> Owner
+pub fn owner_found(f: Option<Found>) -> Option<u8>
     ensures { result ≡ found_owner f }
 {
-    match f {
-        Found::Absent => Owner::Nobody,
-        Found::Present(u, _) => Owner::User(u),
-    }
+    f.map(|a| a.owner)
 }
 
 // The owner of the object: the node at p for name 0, else the attribute of that name there.
-pub fn owner_of(d: Dossier, p: Path, name: u16) -> Owner
+pub fn owner_of(d: Dossier, p: Path, name: u16) -> Option<u8>
     requires { DossierFits d × PathSound p }
     ensures { result ≡ object_owner (object_at (steps p) name (view_dossier d)) }
 {
@@ -106,10 +95,7 @@ pub fn own(d: Dossier, p: Path, name: u16, s: Subject) -> Option<Provisions>
     requires { DossierFits d × PathSound p }
     ensures { result ≡ decision_of (model.given (model.own_by (view_subject s)) (object_at (steps p) name (view_dossier d))) }
 {
-    match owner_of(d, p, name) {
-        Owner::Nobody => None,
-        Owner::User(u) => owned(u, s.user),
-    }
+    owned(owner_of(d, p, name)?, s.user)
 }
 
 // A delegate permission on the object that matches; owning does not help.
@@ -117,10 +103,8 @@ pub fn delegate(d: Dossier, p: Path, name: u16, s: Subject) -> Option<Provisions
     requires { DossierFits d × PathSound p }
     ensures { result ≡ decision_of (model.given (model.delegate_by (view_subject s)) (object_at (steps p) name (view_dossier d))) }
 {
-    match owner_of(d, p, name) {
-        Owner::Nobody => None,
-        Owner::User(_) => walked(d.permissions, p, name, s).delegate,
-    }
+    owner_of(d, p, name)?;
+    walked(d.permissions, p, name, s).delegate
 }
 
 // ---- the needs of a request: whose what it looks at is, and what the permissions then give
@@ -128,9 +112,9 @@ pub fn delegate(d: Dossier, p: Path, name: u16, s: Subject) -> Option<Provisions
 // Whose the node at the path is, the node above it, the attribute of the name there.
 #[derive(Clone, Copy)]
 pub struct Owners {
-    pub node: Owner,
-    pub parent: Owner,
-    pub attribute: Owner,
+    pub node: Option<u8>,
+    pub parent: Option<u8>,
+    pub attribute: Option<u8>,
 }
 
 fn owners_in(n: Nodes, t: Attributes, p: Path, name: u16) -> Owners
@@ -145,33 +129,20 @@ fn owners_in(n: Nodes, t: Attributes, p: Path, name: u16) -> Owners
 }
 
 // The user owns it (no provisions), or what the permissions give.
-fn owned_or(o: Owner, user: u8, d: Option<Provisions>) -> Option<Provisions>
+fn owned_or(o: Option<u8>, user: u8, d: Option<Provisions>) -> Option<Provisions>
     ensures { result ≡ owned_or o user d }
 {
-    match o {
-        Owner::Nobody => None,
-        Owner::User(u) => owned(u, user).or(d),
-    }
-}
-
-// What the permissions give on what is there; owning does not help.
-fn there_or(o: Owner, d: Option<Provisions>) -> Option<Provisions>
-    ensures { result ≡ there_or o d }
-{
-    match o {
-        Owner::Nobody => None,
-        Owner::User(_) => d,
-    }
+    owned(o?, user).or(d)
 }
 
 // The object of requests 14 to 16.
-pub fn object_owner(o: Owners, name: u16) -> Owner
+pub fn object_owner(o: Owners, name: u16) -> Option<u8>
     ensures { result ≡ pick (eqb name 0) o.node o.attribute }
 {
     if name == 0 { o.node } else { o.attribute }
 }
 
-// The permissions of what the request reads or delegates on. One call for all such requests: the table is handed on once.
+// What the permissions of what the request reads or delegates on give.
 fn object_walk(t: Permissions, a: Asked) -> Walk
     requires { PermissionsSound t × PathSound a.path }
     ensures { result ≡ object_walk (view_asked a) (view_permissions t) }
@@ -227,7 +198,7 @@ pub fn rights(a: Asked, o: Owners, t: Permissions) -> Option<Provisions>
             owned_or(o.node, user, change),
         ),
         14 | 15 => owned_or(object, user, None),
-        16 => there_or(object, w.delegate),
+        16 => object.and(w.delegate),
         _ => None,
     }
 }
