@@ -1,53 +1,71 @@
--- What is told of a list of attributes, from what its first ones gave and from the rest. Assumes nothing.
+-- What is told of the rows of one node or object. Assumes nothing.
 use mathlib.Core.Path.{◌≡◌, refl, sym, ap, ◌∙◌}
-use mathlib.Core.Bool.{Bool, true, false}
+use mathlib.Core.Bool.{Bool, true, false, ◌||◌}
 use mathlib.Core.Option.{none, some}
 use mathlib.Core.List.{List, [], ◌∷◌, map}
-use Prim.Native.Nat.{ℕ, suc, ◌+◌}
+use Prim.Native.Nat.{ℕ, ◌+◌, ◌<◌}
 use native.Mathlib.Omega.{arith}
 use lib.Dec.{eqb}
-use lib.ListN.{length}
+use lib.ListN.{get_or, drop}
+use Rattle.std.proofs.Common as rust
+use Rattle.std.specs.Bool.{then_some}
+use Rattle.std.specs.Prelude.{cond, Some}
+use Rattle.std.specs.List.{find, list_any}
+use Rattle.std.specs.Option.{option_map}
 use Rattle.laws.specs.Slots.{pick}
 use Rattle.laws.specs.Sorted.{move, push}
-use Rattle.model.specs.Things as things
-use Rattle.model.specs.Moves.{called, head}
+use Rattle.laws.proofs.Fill.{held_next}
+use Rattle.laws.proofs.Search.{rows_from, rows_other}
+use Rattle.path.specs.Address.{Address, same}
+use Rattle.path.specs.View.{steps}
+use Rattle.model.specs.Things.{Row}
+use Rattle.model.specs.Moves.{called, head, at, owner_in, same_permission, holds}
+use Rattle.tables.specs.declared.Node.{Node}
+use Rattle.tables.specs.declared.Nodes.{Nodes}
+use Rattle.tables.specs.Places.{place_of}
+use Rattle.tables.specs.declared.Attribute.{Attribute}
+use Rattle.tables.specs.declared.Permission.{Permission}
+use Rattle.tables.specs.declared.Grant.{Grant}
 use Rattle.tables.specs.declared.Found.{Found}
-use Rattle.tables.specs.declared.Found.TheVariants.{Absent, Present}
-use Rattle.tables.specs.View.{found_of}
-use Rattle.lookups.specs.declared.Held.{Held}
-use Rattle.lookups.specs.View.{or_found}
+use Rattle.tables.specs.View.{view_node, view_nodes, NodesSound, owner_of, view_attribute, view_grant, found_of}
+use Rattle.tables.proofs.Rows.{value_there, nodes_held}
+use Rattle.tables.proofs.Places.{nodes_searched, at_path}
 
-or_absent : (f : Found) → or_found f Absent ≡ f
-or_absent Absent = refl
-or_absent (Present u v) = refl
+abbrev pub found_at : Attribute → Found
+found_at a = record { owner = a.owner; value = a.value }
 
-or_next : (f : Found) (n : ℕ) (a : things.Attribute) (l : List things.Attribute)
-    → or_found f (found_of (head (move (called n) (a ∷ l)))) ≡ or_found (or_found f (found_of (called n a))) (found_of (head (move (called n) l)))
-or_next (Present u v) n a l = refl
-or_next Absent n a l = go (eqb a.name n)
+pub find_called : (n : ℕ) (l : List Attribute) → option_map found_at (find (λ a. eqb a.name n) l) ≡ found_of (head (move (called n) (map (λ a. (view_attribute a).1) l)))
+find_called n [] = refl
+find_called n (a ∷ l) = go (eqb a.name n) (find_called n l)
   where
-    go : (b : Bool) → found_of (head (push (pick b (some a) none) (move (called n) l))) ≡ or_found (found_of (pick b (some a) none)) (found_of (head (move (called n) l)))
-    go true = refl
-    go false = refl
+    go : (b : Bool) → option_map found_at (find (λ a. eqb a.name n) l) ≡ found_of (head (move (called n) (map (λ a. (view_attribute a).1) l)))
+        → option_map found_at (cond b (Some a) (find (λ a. eqb a.name n) l)) ≡ found_of (head (push (pick b (some (view_attribute a).1) none) (move (called n) (map (λ a. (view_attribute a).1) l))))
+    go true h = ap (λ v. Some (record { owner = a.owner; value = v })) (sym (value_there a.value))
+    go false h = h
 
--- what was found and counted before, and the rest of the node's attributes
-abbrev pub held_from : Found → ℕ → ℕ → List things.Attribute → Held
-held_from f k n l = record { found = or_found f (found_of (head (move (called n) l))); names = k + length (map (λ a. a.name) l) }
+pub any_holds : (g : Grant) (l : List Permission) → list_any (λ a. same_permission (view_grant g) (view_grant a.grant)) l ≡ holds (view_grant g) (map (λ a. view_grant a.grant) l)
+any_holds g [] = refl
+any_holds g (a ∷ l) = go (same_permission (view_grant g) (view_grant a.grant)) (any_holds g l)
+  where
+    go : (b : Bool) → list_any (λ a. same_permission (view_grant g) (view_grant a.grant)) l ≡ holds (view_grant g) (map (λ a. view_grant a.grant) l)
+        → (b || list_any (λ a. same_permission (view_grant g) (view_grant a.grant)) l) ≡ pick b true (holds (view_grant g) (map (λ a. view_grant a.grant) l))
+    go true h = refl
+    go false h = h
 
-abbrev held : Found → ℕ → Held
-held f k = record { found = f; names = k }
+-- ---- the row at the place of a path: its owner, if it is that path's
+pub owner_at : (t : Nodes) (p : Address) (i : ℕ) (x : Node) → NodesSound t → i ≡ place_of p (view_nodes t) → i < t.count → x ≡ get_or t.rows i x
+    → {b : Bool} → same (steps x.path) p ≡ b → then_some b x.owner ≡ owner_of (owner_in p (view_nodes t))
+owner_at t p i x h e c is {b} f = go b f ∙ sym (rows_from (nodes_searched h) p (at_path p asked) e)
+  where
+    asked : List ℕ → rust.Option ℕ
+    asked l = owner_of (head l)
 
-pub held_begin : (n : ℕ) (l : List things.Attribute) → held (found_of (head (move (called n) l))) (length (map (λ a. a.name) l)) ≡ held_from Absent 0 n l
-held_begin n l = let e : length (map (λ (a : things.Attribute). a.name) l) ≡ 0 + length (map (λ (a : things.Attribute). a.name) l) = omega arith in λ i. held (found_of (head (move (called n) l))) (e i)
+    rest : List (Row ℕ)
+    rest = drop (i + 1) (view_nodes t)
 
-pub held_end : (f : Found) (k n : ℕ) → held f k ≡ held_from f k n []
-held_end f k n = let e : k ≡ k + 0 = omega arith in λ i. held (sym (or_absent f) i) (e i)
+    next : drop i (view_nodes t) ≡ view_node x ∷ rest
+    next = held_next _ _ _ _ _ _ (nodes_held t h) view_node i x c ∙ ap (λ y. view_node y ∷ rest) (sym is)
 
--- x is what the first attribute gives
-pub held_turn : (f : Found) (k n : ℕ) {f' x : Found} (a : things.Attribute) → x ≡ found_of (called n a) → f' ≡ or_found f x
-    → (l : List things.Attribute) → held_from f k n (a ∷ l) ≡ held_from f' (k + 1) n l
-held_turn f k n a e h l =
-    let m = length (map (λ (b : things.Attribute). b.name) l) in
-    let j : k + suc m ≡ (k + 1) + m = omega arith in
-    let g = or_next f n a l ∙ ap (λ y. or_found y (found_of (head (move (called n) l)))) (sym (h ∙ ap (or_found f) e)) in
-    λ i. held (g i) (j i)
+    go : (b : Bool) → same (steps x.path) p ≡ b → then_some b x.owner ≡ asked (move (at p) (drop i (view_nodes t)))
+    go true f = sym (ap (λ l. asked (move (at p) l)) next ∙ ap (λ b. asked (push (pick b (some x.owner) none) (move (at p) rest))) f)
+    go false f = sym (rows_other (nodes_searched h) p (at_path p asked) i x (omega arith) c (ap (λ y. same (steps y.path) p) (sym is) ∙ f))

@@ -3,15 +3,8 @@ use Rattle.std.specs.Prelude.{List, ℕ, length}
 use Rattle.path.specs.Address.{Address}
 use Rattle.model.specs.Things.{Row, Attribute}
 use Rattle.model.specs.Moves.{attribute_in, names_in}
-use Rattle.tables.specs.declared.Found.{Found}
-use Rattle.tables.specs.declared.Found.TheVariants.{Absent, Present}
 use Rattle.tables.specs.View.{found_of}
 use Rattle.lookups.specs.declared.Held.{Held}
-
--- what was found before, or else what is found now
-abbrev pub or_found : Found → Found → Found
-or_found Absent now = now
-or_found (Present u v) now = Present u v
 
 -- the attribute of the name at p, and how many attributes the node there has
 abbrev pub held_in : Address → ℕ → List (Row Attribute) → Held

@@ -18,7 +18,7 @@ use Rattle.path.specs.Address.{Address, before, same, under, off}
 use Rattle.path.proofs.Laws.{address_order}
 use Rattle.path.proofs.Structs.{no, off_under, off_not}
 use Rattle.model.specs.Things.{Row, Attribute, Permission}
-use Rattle.model.specs.Moves.{carry, carried, at, head, one_step, attribute_in, permissions_in, deepest, same_time, same_permission}
+use Rattle.model.specs.Moves.{carry, carried, at, head, one_step, attribute_in, permissions_in, deepest}
 use Rattle.model.specs.Image.{there}
 
 -- ---- whether a row gives anything
@@ -164,16 +164,3 @@ module _ {P : Type 0} (lt : P → P → Bool) where
 
   pub deepest_last : {l k : List (Row P)} {r : Row P} → Sorted (lt_pair before lt) l → Ends l k r → deepest l ≡ length r.0
   deepest_last {k = k} {r} s e = ap deepest e.ends ∙ last_deepest k r (subst (Sorted (lt_pair before lt)) e.ends s)
-
--- ---- the same permission
-pub all_fields : (g h : Permission) (t : Bool) → t ≡ (same_time g.first h.first && same_time g.last h.last)
-    → (eqb g.role h.role
-    && (eqb g.action h.action && (eqb g.user h.user && (t && (eqb g.messages h.messages && eqb g.agreements h.agreements)))))
-    ≡ same_permission g h
-all_fields g h t e =
-    let m = eqb g.messages h.messages && eqb g.agreements h.agreements in
-    ap (λ b. eqb g.role h.role && (eqb g.action h.action && (eqb g.user h.user && b))) (ap (λ b. b && m) e ∙ assoc (same_time g.first h.first) (same_time g.last h.last) m)
-  where
-    assoc : (a b c : Bool) → ((a && b) && c) ≡ (a && (b && c))
-    assoc true b c = refl
-    assoc false b c = refl

@@ -5,3 +5,4 @@ pub mod Parts
 pub mod Tables
 pub mod Places
 pub mod Walk
+pub mod Together

@@ -1,5 +1,6 @@
 -- The structs of this crate and the model: view (struct to model), ..Of (model to the one struct that stands for it), ..Sound.
-use Rattle.std.specs.Prelude.{Bool, ◌&&◌, List, [], ◌∷◌, map, ℕ, ◌≤◌, pos, T, eqb, take, length}
+use Rattle.std.specs.Prelude as rust
+use Rattle.std.specs.Prelude.{None, Some, Bool, ◌&&◌, List, [], ◌∷◌, map, ℕ, ◌≤◌, pos, T, eqb, take, length}
 use Rattle.std.proofs.Math.Option.{Option, none, some}
 use Rattle.laws.specs.Slots.{pick, slots, All, Is}
 use Rattle.laws.specs.Sorted.{Sorted}
@@ -21,10 +22,7 @@ use Rattle.tables.specs.declared.Attributes.{Attributes}
 use Rattle.tables.specs.declared.Permissions.{Permissions}
 use Rattle.tables.specs.declared.Dossier.{Dossier}
 use Rattle.tables.specs.declared.Clipboard.{Clipboard}
-use Rattle.tables.specs.declared.Owner.{Owner}
-use Rattle.tables.specs.declared.Owner.TheVariants.{Nobody, User}
 use Rattle.tables.specs.declared.Found.{Found}
-use Rattle.tables.specs.declared.Found.TheVariants.{Absent, Present}
 use Rattle.tables.specs.declared.Names.{Names}
 
 -- ---- what a path must be, of a row
@@ -213,13 +211,14 @@ abbrev pub ClipboardSound : Clipboard → Type 0
 ClipboardSound c = Is clipboard_of SoundClipboard c
 
 -- ---- answers
-abbrev pub owner_of : Option ℕ → Owner
-owner_of none = Nobody
-owner_of (some u) = User u
+-- a node's owner, or that there is no such node; an attribute's owner and value, or that there is none
+abbrev pub owner_of : Option ℕ → rust.Option ℕ
+owner_of none = None
+owner_of (some u) = Some u
 
-abbrev pub found_of : Option things.Attribute → Found
-found_of none = Absent
-found_of (some a) = Present a.owner (value_of a.value)
+abbrev pub found_of : Option things.Attribute → rust.Option Found
+found_of none = None
+found_of (some a) = Some (record { owner = a.owner; value = value_of a.value })
 
 abbrev pub names_of : List ℕ → Names
 names_of l = record { names = slots 16 0 l; count = length l }

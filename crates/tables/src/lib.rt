@@ -32,18 +32,11 @@ pub struct Attribute {
     pub value: Value,
 }
 
-// A node's owner, or that there is no such node: nobody is no user.
+// What is found of an attribute. (Of a node that is its owner.)
 #[derive(Clone, Copy)]
-pub enum Owner {
-    Nobody,
-    User(u8),
-}
-
-// An attribute's owner and value, or that there is none.
-#[derive(Clone, Copy)]
-pub enum Found {
-    Absent,
-    Present(u8, Value),
+pub struct Found {
+    pub owner: u8,
+    pub value: Value,
 }
 
 // The names on a node, ascending; unused places are 0.
@@ -54,14 +47,14 @@ pub struct Names {
 }
 
 // Both ends of an interval of times belong to it.
-#[derive(Clone, Copy)]
+#[derive(Clone, Copy, PartialEq, Eq)]
 pub struct Span {
     pub first: i64,
     pub last: i64,
 }
 
 // A permission without its object: user 0 is any user; messages and agreements are sets, bit n for number n.
-#[derive(Clone, Copy)]
+#[derive(Clone, Copy, PartialEq, Eq)]
 pub struct Grant {
     pub role: u8,
     pub action: u8,
@@ -137,28 +130,25 @@ pub fn blank_attribute() -> Attribute
 pub fn blank_permission() -> Permission
     ensures { result ≡ blank_permission }
 {
-    let s = Span { first: 0, last: 0 };
-    let g = Grant {
-        role: 0,
-        action: 0,
-        user: 0,
-        span: s,
-        messages: 0,
-        agreements: 0,
-    };
     Permission {
         path: root(),
         name: 0,
-        grant: g,
+        grant: Grant {
+            role: 0,
+            action: 0,
+            user: 0,
+            span: Span { first: 0, last: 0 },
+            messages: 0,
+            agreements: 0,
+        },
     }
 }
 
 pub fn no_nodes() -> Nodes
     ensures { result ≡ nodes_of [] }
 {
-    let b = blank_node();
     Nodes {
-        rows: [b; 64],
+        rows: [blank_node(); 64],
         count: 0,
     }
 }
@@ -166,9 +156,8 @@ pub fn no_nodes() -> Nodes
 pub fn no_attributes() -> Attributes
     ensures { result ≡ attributes_of [] }
 {
-    let b = blank_attribute();
     Attributes {
-        rows: [b; 256],
+        rows: [blank_attribute(); 256],
         count: 0,
     }
 }
@@ -176,9 +165,8 @@ pub fn no_attributes() -> Attributes
 pub fn no_permissions() -> Permissions
     ensures { result ≡ permissions_of [] }
 {
-    let b = blank_permission();
     Permissions {
-        rows: [b; 128],
+        rows: [blank_permission(); 128],
         count: 0,
     }
 }

@@ -1,55 +1,54 @@
 -- `lookups::owner_in` meets its contract: the row at the place of p is p's, or none is. Assumes nothing.
-use borrow.Author.Rules.{rules}
-use mathlib.Core.Bool.{true}
-use mathlib.Core.Path.{◌≡◌, sym, ◌∙◌}
+use mathlib.Core.Path.{◌≡◌, sym, subst, ◌∙◌}
 use mathlib.Core.List.{List}
-use Prim.Native.Nat.{ℕ, ◌≤◌}
+use Prim.Native.Nat.{ℕ, ◌<◌}
 use native.Mathlib.Omega.{arith}
-use lib.ListN.{get_or}
-use Rattle.laws.proofs.Fill.{held_room, held_each, held_next, row_end}
-use Rattle.laws.proofs.Search.{rows_from, rows_other}
-use Rattle.path.specs.Address.{same}
+use lib.ListN.{get_or, length, take}
+use lib.Seq.{get_or-take, length-take-le}
+use borrow.Author.Tests.{ltb-true, ltb-false}
+use Rattle.std.proofs.Common.{Option}
+use Rattle.laws.proofs.Fill.{held_room, held_full, held_each, row_end}
+use Rattle.laws.proofs.Search.{rows_from}
 use Rattle.path.specs.View.{steps}
 use Rattle.model.specs.Moves.{head}
-use Rattle.tables.specs.declared.Owner.{Owner}
-use Rattle.tables.specs.View.{view_node, no_node, owner_of}
+use Rattle.tables.specs.View.{view_node, owner_of, NodeSound}
 use Rattle.tables.proofs.Rows.{node_path, nodes_held}
 use Rattle.tables.proofs.Places.{nodes_searched, at_path}
+use Rattle.lookups.proofs.Told.{owner_at}
 use Rattle.lookups.proofs.owner_in.Goals as goal
-use Rattle.lookups.proofs.owner_in.Goals.{Start}
+use Rattle.lookups.proofs.owner_in.Goals.{Start, In_ok-node}
 
-abbrev asked : List ℕ → Owner
+abbrev asked : List ℕ → Option ℕ
 asked l = owner_of (head l)
 
-room : (c : Start) → c.args.t.count ≤ 64
-room c = held_room _ _ _ _ _ _ (nodes_held c.args.t c.requires.0)
+pub shared_ref_as_front-get : goal.shared_ref_as_front-get
+shared_ref_as_front-get c = held_room _ _ _ _ _ _ (nodes_held c.args.t c.requires.0)
 
-pub returns-then-t-i : goal.returns-then-t-i
-returns-then-t-i c =
-    let f = c.first_at-i in
-    sym (rows_from (nodes_searched c.requires.0) (steps c.args.p) (at_path (steps c.args.p) asked) f.ensures ∙ rw (row_end view_node c.args.t.rows c.args.t.count f.result c.if-t-i.true))
+long : (c : Start) → length (take c.args.t.count c.args.t.rows) ≡ c.args.t.count
+long c = length-take-le c.args.t.count c.args.t.rows (held_full _ _ _ _ _ _ (nodes_held c.args.t c.requires.0))
 
-pub offset_bounds-t-i : goal.offset_bounds-t-i
-offset_bounds-t-i c = let r = room (goal.at.offset_bounds-t-i c).Start in search rules
+pub returns-in_err-node : goal.returns-in_err-node
+returns-in_err-node c =
+    let f = c.first_at in
+    let n = long (goal.at.returns-in_err-node c).Start in
+    let past = ltb-false f.result (length (take c.args.t.count c.args.t.rows)) (sym c.in_err-node.ensures.lookup.0) in
+    c.from_residual.ensures
+    ∙ sym (rows_from (nodes_searched c.requires.0) (steps c.args.p) (at_path (steps c.args.p) asked) f.ensures ∙ rw (row_end view_node c.args.t.rows c.args.t.count f.result (omega arith)))
 
-pub bounds-t-i : goal.bounds-t-i
-bounds-t-i c = let r = room (goal.at.bounds-t-i c).Start in search rules
+inside : (c : In_ok-node) → c.first_at.result < c.args.t.count
+inside c =
+    let n = long (goal.at-In_ok-node c).Start in
+    let h = ltb-true c.first_at.result (length (take c.args.t.count c.args.t.rows)) (sym c.in_ok-node.ensures.lookup.0) in
+    omega arith
+
+found : (c : In_ok-node) → c.in_ok-node.node.now ≡ get_or c.args.t.rows c.first_at.result c.in_ok-node.node.now
+found c = c.in_ok-node.ensures.lookup.1 ∙ get_or-take c.args.t.count c.args.t.rows c.first_at.result c.in_ok-node.node.now (inside c)
+
+sound : (c : In_ok-node) → NodeSound c.in_ok-node.node.now
+sound c = subst NodeSound (sym (found c)) (held_each _ _ _ _ _ _ (nodes_held c.args.t c.requires.0) c.first_at.result c.in_ok-node.node.now (inside c))
 
 pub is_same-requires : goal.is_same-requires
-is_same-requires c =
-    (node_path (held_each _ _ _ _ _ _ (nodes_held c.args.t c.requires.0) c.first_at-i.result no_node c.if-t-i.false), c.requires.1)
-
-pub returns-then-is_same : goal.returns-then-is_same
-returns-then-is_same c =
-    let f = c.first_at-i in
-    let x = get_or c.args.t.rows f.result no_node in
-    let hit : same (steps x.path) (steps c.args.p) ≡ true = sym c.is_same.ensures ∙ c.if-is_same.true in
-    sym (rows_from (nodes_searched c.requires.0) (steps c.args.p) (at_path (steps c.args.p) asked) f.ensures
-    ∙ rw (held_next _ _ _ _ _ _ (nodes_held c.args.t c.requires.0) view_node f.result no_node c.if-t-i.false, hit))
+is_same-requires c = (node_path (sound (goal.at.is_same-requires c).In_ok-node), c.requires.1)
 
 pub returns : goal.returns
-returns c =
-    let f = c.first_at-i in
-    sym (rows_from (nodes_searched c.requires.0) (steps c.args.p) (at_path (steps c.args.p) asked) f.ensures
-    ∙ rows_other (nodes_searched c.requires.0) (steps c.args.p) (at_path (steps c.args.p) asked) f.result no_node (let e = f.ensures in omega arith) c.if-t-i.false
-    (sym c.is_same.ensures ∙ c.if-is_same.false))
+returns c = c.then_some.ensures ∙ owner_at c.args.t (steps c.args.p) c.first_at.result c.in_ok-node.node.now c.requires.0 c.first_at.ensures (inside (goal.at.returns c).In_ok-node) (found (goal.at.returns c).In_ok-node) (sym c.is_same.ensures)

@@ -6,4 +6,4 @@ use Rattle.tables.proofs.no_attributes.Goals as goal
 
 pub returns : goal.returns
 unfolding attributes_of
-returns c = ap (λ x. attributes_with (replicate 256 x) 0) c.blank_attribute-b.ensures
+returns c = ap (λ x. attributes_with (replicate 256 x) 0) c.blank_attribute.ensures

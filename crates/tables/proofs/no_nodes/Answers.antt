@@ -6,4 +6,4 @@ use Rattle.tables.proofs.no_nodes.Goals as goal
 
 pub returns : goal.returns
 unfolding nodes_of
-returns c = ap (λ x. nodes_with (replicate 64 x) 0) c.blank_node-b.ensures
+returns c = ap (λ x. nodes_with (replicate 64 x) 0) c.blank_node.ensures

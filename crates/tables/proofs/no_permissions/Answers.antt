@@ -6,4 +6,4 @@ use Rattle.tables.proofs.no_permissions.Goals as goal
 
 pub returns : goal.returns
 unfolding permissions_of
-returns c = ap (λ x. permissions_with (replicate 128 x) 0) c.blank_permission-b.ensures
+returns c = ap (λ x. permissions_with (replicate 128 x) 0) c.blank_permission.ensures

@@ -1,43 +1,21 @@
 -- `tables::order::permission_before` meets its contract: by the keys of their paths, then by name, then by the grant. Assumes nothing.
-use mathlib.Core.Bool.{Bool}
-use mathlib.Core.Path.{◌≡◌, sym, ◌∙◌}
-use Rattle.laws.specs.Order.{lex}
-use Rattle.path.specs.Address.{before}
-use Rattle.path.specs.View.{steps}
+use mathlib.Core.Path.{ap₂, ◌∙◌}
+use Rattle.std.specs.Ordering.{is_lt, is_some_and, partial_ordering_then}
 use Rattle.model.specs.Things.{lt_permission}
 use Rattle.tables.specs.View.{view_grant}
-use Rattle.tables.proofs.Compare.{lexed, lexed_differ, lexed_same, keyed}
+use Rattle.tables.proofs.Compare.{compare, Rank, compare_rank, ranks_number, ranks_three, ranks_grant, ranks_less, lexed, keyed}
 use Rattle.tables.proofs.Rows.{permission_path}
 use Rattle.tables.proofs.order.permission_before.Goals as goal
-use Rattle.tables.proofs.order.permission_before.Goals.{After-key-k}
-
-by_path : (c : After-key-k) (t : Bool)
-    → lexed c.key-j.result c.key-k.result t
-    ≡ lex (before (steps c.args.a.path) (steps c.args.b.path)) (before (steps c.args.b.path) (steps c.args.a.path)) t
-by_path c t =
-    keyed c.args.a.path c.args.b.path (permission_path c.requires.0) (permission_path c.requires.1) c.key-j.result c.key-k.result c.key-j.ensures c.key-k.ensures t
-
-pub returns-then-j-k : goal.returns-then-j-k
-returns-then-j-k c =
-    let a = c.args.a in
-    let b = c.args.b in
-    let t = lexed a.name b.name (lt_permission (view_grant a.grant) (view_grant b.grant)) in
-    sym (lexed_differ c.key-j.result c.key-k.result t c.if-j-k.true) ∙ by_path (goal.at.returns-then-j-k c).After-key-k t
-
-pub returns-then-a-b : goal.returns-then-a-b
-returns-then-a-b c =
-    let a = c.args.a in
-    let b = c.args.b in
-    let g = lt_permission (view_grant a.grant) (view_grant b.grant) in
-    let t = lexed a.name b.name g in
-    sym (lexed_same c.key-j.result c.key-k.result t c.if-j-k.false ∙ lexed_differ a.name b.name g c.if-a-b.true) ∙ by_path (goal.at.returns-then-a-b c).After-key-k t
 
 pub returns : goal.returns
 returns c =
     let a = c.args.a in
     let b = c.args.b in
-    let g = lt_permission (view_grant a.grant) (view_grant b.grant) in
-    let t = lexed a.name b.name g in
-    c.grant_before.ensures
-    ∙ sym (lexed_same c.key-j.result c.key-k.result t c.if-j-k.false ∙ lexed_same a.name b.name g c.if-a-b.false)
-    ∙ by_path (goal.at.returns c).After-key-k t
+    let j = c.key.result in
+    let k = c.key-2.result in
+    let g = view_grant a.grant in
+    let h = view_grant b.grant in
+    c.lt.ensures
+    ∙ ap₂ (λ (x y : Rank). is_some_and is_lt (partial_ordering_then (partial_ordering_then (compare j k) (compare a.name b.name)) (compare_rank x y))) c.rank.ensures.fields c.rank-2.ensures.fields
+    ∙ ranks_less (ranks_three (ranks_number j k) (ranks_number a.name b.name) (ranks_grant g h c.rank.ensures.times c.rank-2.ensures.times))
+    ∙ keyed a.path b.path (permission_path c.requires.0) (permission_path c.requires.1) j k c.key.ensures c.key-2.ensures (lexed a.name b.name (lt_permission g h))

@@ -1,43 +1,29 @@
--- `tables::place::first_at` meets its contract: the place of p is always between lo and hi. Assumes nothing.
-use borrow.Author.Rules.{rules}
-use borrow.Author.Tests.{ltb-true, ltb-false}
-use mathlib.Core.Path.{◌≡◌, sym, ◌∙◌}
-use Prim.Native.Nat.{ℕ, ◌+◌, ◌-◌, ◌/◌, ◌<◌}
+-- `tables::place::first_at` meets its contract: the place of p by its key. Assumes nothing.
+use Rattle.std.proofs.Common.{rules}
+use mathlib.Core.Path.{◌≡◌}
+use Prim.Native.Nat.{ℕ, ◌<◌}
 use lib.Dec.{ltb}
-use native.Mathlib.Omega.{arith}
+use lib.ListN.{get_or, take}
+use Rattle.std.proofs.lemmas.List.Sorted.{IsPartitionPoint-from_clause}
 use Rattle.laws.proofs.Fill.{held_room, held_each}
-use Rattle.laws.proofs.Search.{place_most, row_side}
-use Rattle.path.specs.View.{steps}
-use Rattle.tables.specs.View.{view_nodes, no_node}
-use Rattle.tables.specs.Places.{place_of}
+use Rattle.path.specs.Address.{before}
+use Rattle.path.specs.View.{steps, key_of}
+use Rattle.path.proofs.Number.{key_before}
+use Rattle.tables.specs.declared.Node.{Node}
+use Rattle.tables.specs.View.{no_node}
 use Rattle.tables.proofs.Rows.{node_path, nodes_held}
 use Rattle.tables.proofs.Places.{nodes_searched}
+use Rattle.tables.proofs.Together.{begins, begin}
 use Rattle.tables.proofs.place.first_at.Goals as goal
-use Rattle.tables.proofs.place.first_at.Goals.{After-is_before, In-loop-lo}
 
-pub loop-lo-init : goal.loop-lo-init
-loop-lo-init c = (search rules, place_most (nodes_searched c.requires.0) (steps c.args.p), search rules, held_room _ _ _ _ _ _ (nodes_held c.args.t c.requires.0))
+pub shared_ref_as_front-partition_point : goal.shared_ref_as_front-partition_point
+shared_ref_as_front-partition_point c = held_room _ _ _ _ _ _ (nodes_held c.args.t c.requires.0)
 
--- the row looked at, the place looked for; the row is there, and its test says on which side of it the place is
-abbrev mid : In-loop-lo → ℕ
-mid c = c.loop-lo.lo + (c.loop-lo.hi - c.loop-lo.lo) / 2
-
-abbrev sought : In-loop-lo → ℕ
-sought c = place_of (steps c.args.p) (view_nodes c.args.t)
-
-inside : (c : In-loop-lo) → mid c < c.args.t.count
-inside c = omega arith
-
-side : (c : After-is_before) → ltb (mid (goal.at-After-is_before c).In-loop-lo) (sought (goal.at-After-is_before c).In-loop-lo) ≡ c.is_before.result
-side c =
-    row_side (nodes_searched c.requires.0) (steps c.args.p) (mid (goal.at-After-is_before c).In-loop-lo) no_node (inside (goal.at-After-is_before c).In-loop-lo) ∙ sym c.is_before.ensures
-
-pub is_before-requires : goal.is_before-requires
-is_before-requires c =
-    (node_path (held_each _ _ _ _ _ _ (nodes_held c.args.t c.requires.0) (mid (goal.at.is_before-requires c).In-loop-lo) no_node (inside (goal.at.is_before-requires c).In-loop-lo)), c.requires.1)
-
-pub loop-lo-preserved-then-is_before : goal.loop-lo-preserved-then-is_before
-loop-lo-preserved-then-is_before c = let f = ltb-true (mid (goal.at.loop-lo-preserved-then-is_before c).In-loop-lo) (sought (goal.at.loop-lo-preserved-then-is_before c).In-loop-lo) (side (goal.at.loop-lo-preserved-then-is_before c).After-is_before ∙ c.if-is_before.true) in omega arith
-
-pub loop-lo-preserved : goal.loop-lo-preserved
-loop-lo-preserved c = let f = ltb-false (mid (goal.at.loop-lo-preserved c).In-loop-lo) (sought (goal.at.loop-lo-preserved c).In-loop-lo) (side (goal.at.loop-lo-preserved c).After-is_before ∙ c.if-is_before.false) in omega arith
+pub returns : goal.returns
+returns c =
+    let q = nodes_searched c.requires.0 in
+    let p : Node → _ = λ s. ltb (key_of s.path) (key_of c.args.p) in
+    let e : (i : ℕ) (d : Node) → i < c.args.t.count → p (get_or c.args.t.rows i d) ≡ before (steps (get_or c.args.t.rows i d).path) (steps c.args.p) =
+    λ i d h. key_before _ _ (node_path (held_each _ _ _ _ _ _ (nodes_held c.args.t c.requires.0) i d h)) c.requires.1 in
+    let z = IsPartitionPoint-from_clause p (take c.args.t.count c.args.t.rows) c.partition_point.result c.partition_point.ensures.partitioned (begins q (steps c.args.p) p e) (λ a r f k. search rules) in
+    begin q (steps c.args.p) p e no_node c.partition_point.result z c.partition_point.ensures.bound
