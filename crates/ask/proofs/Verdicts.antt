@@ -29,7 +29,9 @@ use Rattle.tables.proofs.Parts.{dossier_fits}
 use Rattle.grants.specs.View.{decision_of}
 use Rattle.decide.specs.View.{object_owner}
 use Rattle.grants.specs.declared.Provisions as grants
-use Rattle.image.specs.declared.Loaded.{Loaded}
+use Rattle.std.proofs.Common.{Result, Ok, Err}
+use Rattle.tables.specs.declared.Dossier.{Dossier}
+use Rattle.image.specs.declared.BadRecord.{BadRecord}
 use Rattle.image.specs.View.{loaded_of}
 use Rattle.ask.specs.declared.Verdict.{Verdict}
 use Rattle.ask.specs.declared.Verdict.TheVariants as verdicts
@@ -109,19 +111,28 @@ path_asked q e = path_good (role_good q.role) (user_good q.user) (time_good q.ti
 pub bad_asked : (q : Question) (d : Option things.Dossier) {b : Bool} → b ≡ bad_question q → b ≡ true → verdicts.Refused 1 ≡ verdict_on q d
 bad_asked q d h e = rw (sym h ∙ e)
 
-module _ (q : Question) (h : false ≡ bad_question q) where
-  pub bad_image : {r : Loaded} (l : images.Loaded things.Dossier) → r ≡ loaded_of l → r.good ≡ false → verdicts.Refused 12 ≡ verdict_on q (image_of l)
-  bad_image (images.bad k) e g = rw (sym h)
-  bad_image (images.good d) e g = no (sym (ap (λ x. x.good) e) ∙ g)
+-- what was loaded
+abbrev dossier_in : Dossier → Result Dossier BadRecord → Dossier
+dossier_in d (Ok x) = x
+dossier_in d (Err k) = d
 
-  pub good_image : {r : Loaded} {v : Verdict} (l : images.Loaded things.Dossier) → r ≡ loaded_of l → r.good ≡ true → v ≡ verdict_in q (view_dossier r.dossier) → v ≡ verdict_on q (image_of l)
-  good_image (images.bad k) e g w = no (sym g ∙ ap (λ x. x.good) e)
-  good_image (images.good d) e g w = w ∙ ap (λ x. verdict_in q (view_dossier x.dossier)) e ∙ ap (verdict_in q) (view_dossier_lem d) ∙ rw (sym h)
+abbrev is_good : Result Dossier BadRecord → Bool
+is_good (Ok x) = true
+is_good (Err k) = false
+
+module _ (q : Question) (h : false ≡ bad_question q) where
+  pub bad_image : {r : BadRecord} (l : images.Loaded things.Dossier) → Err r ≡ loaded_of l → verdicts.Refused 12 ≡ verdict_on q (image_of l)
+  bad_image (images.bad k) e = rw (sym h)
+  bad_image (images.good d) e = no (sym (ap is_good e))
+
+  pub good_image : {x : Dossier} {v : Verdict} (l : images.Loaded things.Dossier) → Ok x ≡ loaded_of l → v ≡ verdict_in q (view_dossier x) → v ≡ verdict_on q (image_of l)
+  good_image (images.bad k) e w = no (ap is_good e)
+  good_image {x} (images.good d) e w = w ∙ ap (λ y. verdict_in q (view_dossier (dossier_in x y))) e ∙ ap (verdict_in q) (view_dossier_lem d) ∙ rw (sym h)
 
 -- what was loaded fits
-pub image_fits : {r : Loaded} (b : List ℕ) → r ≡ loaded_of (images.load b) → r.good ≡ true → DossierFits r.dossier
-image_fits {r} b e g = go (images.load b) refl e
+pub image_fits : {x : Dossier} (b : List ℕ) → Ok x ≡ loaded_of (images.load b) → DossierFits x
+image_fits {x} b e = go (images.load b) refl e
   where
-    go : (l : images.Loaded things.Dossier) → images.load b ≡ l → r ≡ loaded_of l → DossierFits r.dossier
-    go (images.bad k) f h = no (sym g ∙ ap (λ x. x.good) h)
-    go (images.good d) f h = dossier_fits (record { model = d; same = ap (λ x. x.dossier) h; fits = load_sound b d f })
+    go : (l : images.Loaded things.Dossier) → images.load b ≡ l → Ok x ≡ loaded_of l → DossierFits x
+    go (images.bad k) f h = no (ap is_good h)
+    go (images.good d) f h = dossier_fits (record { model = d; same = ap (dossier_in x) h; fits = load_sound b d f })

@@ -110,11 +110,10 @@ fn decided(image: &[u8], q: Question) -> Verdict
     if bad_question(q) {
         return Verdict::Refused(1);
     }
-    let loaded = load(image);
-    if !loaded.good {
-        return Verdict::Refused(12);
+    match load(image) {
+        Ok(d) => decided_on(d, q),
+        Err(_) => Verdict::Refused(12),
     }
-    decided_on(loaded.dossier, q)
 }
 
 // ---- 9, and the answer

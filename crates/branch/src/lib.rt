@@ -6,7 +6,7 @@ ghost use Rattle.model.specs.Image as images;
 ghost use Rattle.tables.specs.View.{view_nodes, nodes_of, NodesSound, view_attributes, attributes_of, AttributesSound, view_dossier, dossier_of, DossierFits};
 ghost use Rattle.image.specs.View.{loaded_of};
 
-use image::{Loaded, load, refused};
+use image::{BadRecord, load};
 use tables::{Attributes, Dossier, Nodes};
 
 // The same nodes, each the owner's.
@@ -14,16 +14,11 @@ fn own_nodes(t: Nodes, owner: u8) -> Nodes
     requires { NodesSound t }
     ensures { result ≡ nodes_of (map (images.owned_node owner) (view_nodes t)) }
 {
-    let n = t.count;
-    let mut out = t;
-    let mut i: usize = 0;
-    while i < n {
-        let mut node = out.rows[i];
-        node.owner = owner;
-        out.rows[i] = node;
-        i += 1;
+    let mut nodes = t;
+    for i in 0..t.count {
+        nodes.rows[i].owner = owner;
     }
-    out
+    nodes
 }
 
 // The same attributes, each the owner's.
@@ -31,16 +26,11 @@ fn own_attributes(t: Attributes, owner: u8) -> Attributes
     requires { AttributesSound t }
     ensures { result ≡ attributes_of (map (images.owned_attribute owner) (view_attributes t)) }
 {
-    let n = t.count;
-    let mut out = t;
-    let mut i: usize = 0;
-    while i < n {
-        let mut a = out.rows[i];
-        a.owner = owner;
-        out.rows[i] = a;
-        i += 1;
+    let mut attributes = t;
+    for i in 0..t.count {
+        attributes.rows[i].owner = owner;
     }
-    out
+    attributes
 }
 
 // Every object the owner's; permissions stay.
@@ -50,10 +40,11 @@ fn own_all(d: Dossier, owner: u8) -> Dossier
 {
     let nodes = own_nodes(d.nodes, owner);
     let attributes = own_attributes(d.attributes, owner);
-    let mut r = d;
-    r.nodes = nodes;
-    r.attributes = attributes;
-    r
+    Dossier {
+        nodes,
+        attributes,
+        permissions: d.permissions,
+    }
 }
 
 // How many whole records stand before the first permission.
@@ -61,36 +52,32 @@ fn before_permissions(image: &[u8]) -> usize
     ensures { result ≡ images.before_permissions (images.records (length image.now / 40) image.now) }
 {
     let n = image.len() / 40;
-    let mut k: usize = 0;
-    while k < n {
+    for k in 0..n {
         if image[k * 40] == 3 {
             return k;
         }
-        k += 1;
     }
-    k
+    n
 }
 
 // The branch that an image holds, or its first record that is bad or a permission.
-pub fn load_branch(image: &[u8], owner: u8) -> Loaded
+pub fn load_branch(image: &[u8], owner: u8) -> Result<Dossier, BadRecord>
     ensures { result ≡ loaded_of (images.load_added owner image.now) }
 {
     let n = image.len() / 40;
     let k = before_permissions(image);
-    let l = load(image);
-    if l.good {
-        if k < n {
-            return refused(k + 1);
+    match load(image) {
+        Ok(d) => {
+            if k < n {
+                return Err(BadRecord { number: k + 1 });
+            }
+            Ok(own_all(d, owner))
         }
-        let d = own_all(l.dossier, owner);
-        return Loaded {
-            good: true,
-            record: 0,
-            dossier: d,
-        };
+        Err(bad) => {
+            if k + 1 < bad.number {
+                return Err(BadRecord { number: k + 1 });
+            }
+            Err(bad)
+        }
     }
-    if k + 1 < l.record {
-        return refused(k + 1);
-    }
-    l
 }

@@ -3,9 +3,9 @@ use mathlib.Core.Path.{◌≡◌, refl, sym, ap, subst, ◌∙◌}
 use mathlib.Core.Bool.{Bool, true, false}
 use mathlib.Core.List.{List}
 use Prim.Native.Nat.{ℕ}
-use native.Mathlib.Omega.{arith}
 use lib.ListN.{length, take, drop}
 use lib.Seq.{take_at}
+use Rattle.std.proofs.Common.{Result, Ok, Err, Some, None, is_some}
 use Rattle.laws.specs.Slots.{pick}
 use Rattle.laws.proofs.Fill.{is_seen, is_same}
 use Rattle.path.proofs.Structs.{no}
@@ -19,28 +19,27 @@ use Rattle.roundtrip.proofs.SaveLoad.{load_sound, save_load}
 use Rattle.tables.specs.declared.Dossier.{Dossier}
 use Rattle.tables.specs.View.{view_dossier, dossier_of, DossierSound}
 use Rattle.tables.proofs.Rows.{view_dossier_lem}
-use Rattle.save.specs.declared.Written.TheVariants.{Short, Bytes}
 use Rattle.save.specs.Saved.{written_of, left_in}
-use Rattle.image.specs.declared.Loaded.{Loaded}
+use Rattle.image.specs.declared.BadRecord.{BadRecord}
 use Rattle.image.specs.View.{loaded_of}
 
 -- ---- what was written: the first n bytes of the buffer are the image
-wrote : (bytes buffer : List ℕ) (n : ℕ) → written_of bytes buffer ≡ Bytes n → take n (left_in bytes buffer) ≡ bytes
+wrote : (bytes buffer : List ℕ) (n : ℕ) → written_of bytes buffer ≡ Some n → take n (left_in bytes buffer) ≡ bytes
 wrote bytes buffer n = go (short bytes buffer)
   where
-    go : (t : Bool) → pick t Short (Bytes (length bytes)) ≡ Bytes n → take n (pick t buffer (written bytes buffer)) ≡ bytes
-    go true e = let z : ◌≡◌ {A = ℕ} 0 1 = cc in absurd (omega arith)
+    go : (t : Bool) → pick t None (Some (length bytes)) ≡ Some n → take n (pick t buffer (written bytes buffer)) ≡ bytes
+    go true e = no (sym (ap is_some e))
     go false e = let m : length bytes ≡ n = cc in take_at bytes (drop (length bytes) buffer) n m
 
 -- what save wrote into a buffer, of a sound dossier, loads as that dossier
-pub saved_loads : (d : Dossier) → DossierSound d → (buffer : List ℕ) (n : ℕ) → written_of (save (view_dossier d)) buffer ≡ Bytes n
-    → loaded_of (load (take n (left_in (save (view_dossier d)) buffer))) ≡ record { good = true; «record» = 0; dossier = d }
+pub saved_loads : (d : Dossier) → DossierSound d → (buffer : List ℕ) (n : ℕ) → written_of (save (view_dossier d)) buffer ≡ Some n
+    → loaded_of (load (take n (left_in (save (view_dossier d)) buffer))) ≡ Ok d
 saved_loads d h buffer n e =
     let s = subst Sound (sym (is_seen dossier_of view_dossier view_dossier_lem Sound d h)) h.fits in
     let x = is_same dossier_of view_dossier view_dossier_lem Sound d h in
     ap (λ (b : List ℕ). loaded_of (load b)) (wrote (save (view_dossier d)) buffer n e)
     ∙ ap loaded_of (load_save (view_dossier d) s)
-    ∙ (λ i. record { good = true; «record» = 0; dossier = sym x i })
+    ∙ ap Ok (sym x)
 
 -- what load accepted is sound, and saves as the bytes it came from: their number, or that the buffer is too short for them, and the buffer as it is left
 pub record SavesAs (b : List ℕ) (d : Dossier) : Type 0 where
@@ -48,16 +47,24 @@ pub record SavesAs (b : List ℕ) (d : Dossier) : Type 0 where
   pub answer : (buffer : List ℕ) → written_of (save (view_dossier d)) buffer ≡ written_of b buffer
   pub left : (buffer : List ℕ) → left_in (save (view_dossier d)) buffer ≡ left_in b buffer
 
-pub loaded_saves : (b : List ℕ) (r : Loaded) → r ≡ loaded_of (load b) → r.good ≡ true → SavesAs b r.dossier
-loaded_saves b r e t = go (load b) refl
+pub loaded_saves : (b : List ℕ) (d : Dossier) → Ok d ≡ loaded_of (load b) → SavesAs b d
+loaded_saves b d e = go (load b) refl
   where
-    go : (o : images.Loaded things.Dossier) → load b ≡ o → SavesAs b r.dossier
-    go (bad k) q = no (sym t ∙ ap (λ (x : Loaded). x.good) (e ∙ ap loaded_of q))
-    go (good d) q =
-        let x : r.dossier ≡ dossier_of d = ap (λ (y : Loaded). y.dossier) (e ∙ ap loaded_of q) in
-        let f : save (view_dossier r.dossier) ≡ b = ap save (ap view_dossier x ∙ view_dossier_lem d) ∙ save_load b d q in
+    dossier_in : Result Dossier BadRecord → Dossier
+    dossier_in (Ok x) = x
+    dossier_in (Err k) = d
+
+    is_good : Result Dossier BadRecord → Bool
+    is_good (Ok x) = true
+    is_good (Err k) = false
+
+    go : (o : images.Loaded things.Dossier) → load b ≡ o → SavesAs b d
+    go (bad k) q = no (ap is_good (e ∙ ap loaded_of q))
+    go (good m) q =
+        let x : d ≡ dossier_of m = ap dossier_in (e ∙ ap loaded_of q) in
+        let f : save (view_dossier d) ≡ b = ap save (ap view_dossier x ∙ view_dossier_lem m) ∙ save_load b m q in
         record {
-          sound = record { model = d; same = x; fits = load_sound b d q };
+          sound = record { model = m; same = x; fits = load_sound b m q };
           answer = λ buffer. ap (λ (y : List ℕ). written_of y buffer) f;
           left = λ buffer. ap (λ (y : List ℕ). left_in y buffer) f;
         }

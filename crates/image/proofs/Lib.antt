@@ -1,4 +1,3 @@
-pub mod Less
 pub mod Steps
 pub mod Ascends
 pub mod Halving

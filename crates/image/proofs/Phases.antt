@@ -4,9 +4,9 @@ use mathlib.Core.Bool.{Bool, true, false, not, ◌||◌}
 use mathlib.Core.List.{List, [], ◌∷◌, ◌++◌}
 use Prim.Native.Nat.{ℕ, suc, ◌+◌, ◌-◌, ◌<◌}
 use native.Mathlib.Omega.{arith}
-use lib.Dec.{T, eqb, ltb, leb, ltb→lt, lt→ltb}
+use lib.Dec.{T, ltb, leb, ltb→lt, lt→ltb}
 use lib.ListN.{length, set, get_or, length-map, length-append}
-use borrow.Author.Tests.{leb-false, lt-leb, eqb-true, eqb-false}
+use borrow.Author.Tests.{leb-false, lt-leb}
 use borrow.Table.Steps.{cases}
 use Rattle.laws.specs.Slots.{slots}
 use Rattle.laws.specs.Sorted.{◌∈◌, nil}
@@ -23,21 +23,25 @@ use Rattle.model.specs.Decide.{clash_any}
 use Rattle.model.specs.Moves.{owner_in, attribute_in, names_in, permissions_in, object_at}
 use Rattle.model.specs.Image.{good, node_record, attribute_record, permission_record, node_fits, attribute_fits, left, there}
 use Rattle.roundtrip.proofs.Found.{fits, fits_in, fits_out}
+use Rattle.std.proofs.Common.{Some}
+use Rattle.tables.specs.declared.Node.{Node}
+use Rattle.tables.specs.declared.Attribute.{Attribute}
+use Rattle.tables.specs.declared.Permission.{Permission}
 use Rattle.tables.specs.declared.Nodes.{Nodes}
 use Rattle.tables.specs.declared.Attributes.{Attributes}
 use Rattle.tables.specs.declared.Permissions.{Permissions}
-use Rattle.tables.specs.View.{node_row, view_nodes, nodes_with, nodes_of, view_attributes, attributes_with, attributes_of, no_attribute, view_permissions, permissions_with, permissions_of, view_grant}
+use Rattle.tables.specs.View.{view_nodes, nodes_with, nodes_of, view_attributes, attributes_with, attributes_of, no_attribute, view_permissions, permissions_with, permissions_of, view_grant}
 use Rattle.tables.specs.Places.{Object, before_object, of_attribute, of_permission}
 use Rattle.tables.proofs.Rows.{view_nodes_lem, view_attributes_lem, view_permissions_lem}
 use Rattle.tables.proofs.Tables.{nodes_none, attributes_none, nodes_count, attributes_count, permissions_count}
-use Rattle.parse.specs.declared.Record as parsed
+use Rattle.parse.specs.declared.Record.TheVariants as kinds
 use Rattle.parse.specs.View.{record_of}
-use Rattle.image.specs.Records.{record_at, Upto, Breaks}
-use Rattle.image.specs.Rows.{NoneAfter, node_fits_in, attribute_fits_in, attribute_tests, attribute_from, permission_from, NotOf, NodesUpto, NodesDone, AttributesUpto, AttributesDone, PermissionsUpto}
+use Rattle.image.specs.Records.{record_at, Upto, Breaks, Blames}
+use Rattle.image.specs.Rows.{NoneAfter, node_fits_in, attribute_fits_in, attribute_tests, NotOf, NodesUpto, NodesDone, AttributesUpto, AttributesDone, PermissionsUpto}
 use Rattle.image.specs.Columns.{keys_of}
 use Rattle.image.proofs.Keys.{key_of_row}
 use Rattle.image.proofs.Steps.{breaks_none, breaks_fit, upto_more, upto_fits}
-use Rattle.image.proofs.Stands.{IsNode, is_node, IsAttribute, is_attribute, IsPermission, is_permission, is_none, path_sound, any_path_sound, not_after}
+use Rattle.image.proofs.Stands.{IsNode, is_node, IsAttribute, is_attribute, IsPermission, is_permission, is_none, path_sound, no_node_after, no_attribute_after}
 use Rattle.image.proofs.Behind.{node_behind, attribute_behind, attribute_path_behind, permission_behind}
 use Rattle.image.proofs.Tests.{attribute_fit}
 use Rattle.image.proofs.Stored.{map_one, node_stored, attribute_stored, permission_stored}
@@ -48,6 +52,9 @@ one_more k = omega arith
 
 upto_one : {b : List ℕ} {k : ℕ} {d : things.Dossier} → Upto b (suc k) d → Upto b (k + 1) d
 upto_one {b} {k} {d} u = subst (λ (j : ℕ). Upto b j d) (one_more k) u
+
+pub blamed : {b : List ℕ} {n k : ℕ} → Breaks b n k → Blames b n (k + 1)
+blamed {k = k} u = record { place = k; breaks = u; counted = refl }
 
 -- nothing is read yet
 pub nodes_begin : (b : List ℕ) (n : ℕ) {t : Nodes} → t ≡ nodes_of [] → NodesUpto b n 0 t
@@ -69,27 +76,22 @@ under n c e = go (leb 128 n) refl c e
     go false f false e = (tt, lt→ltb n 128 (leb-false 128 n f))
 
 -- tests joined by "or"
-four : (a b c d : Bool) → (not a || (b || (not c || d))) ≡ false → (a ≡ true) × (c ≡ true) × ((b || d) ≡ false)
-four true false true false e = (refl, refl, refl)
-four true false true true e = no e
-four true false false d e = no e
-four true true c d e = no e
-four false b c d e = no e
-
--- for a record of another kind the answer is the same, whatever the other tests say
-pub third : (k : ℕ) (m : Bool) {o o' x x' : Bool} → o ≡ o' → (k ≡ 3 → x ≡ x') → (not (eqb k 3) || (m || (not o || x))) ≡ (not (eqb k 3) || (m || (not o' || x')))
-third k m e f = cases (eqb k 3) (λ h. let g = f (eqb-true k 3 h) in λ i. not (eqb k 3) || (m || (not (e i) || g i))) (λ h. rw h)
+three : (b c d : Bool) → (b || (not c || d)) ≡ false → (c ≡ true) × ((b || d) ≡ false)
+three false true false e = (refl, refl)
+three false true true e = no e
+three false false d e = no e
+three true c d e = no e
 
 -- ---- nodes
-module _ {b : List ℕ} {n k : ℕ} {t : Nodes} (u : NodesUpto b n k t) (s : parsed.Record) (e : s ≡ record_of (record_at k b)) (h : s.kind ≡ 1) where
+module _ {b : List ℕ} {n k : ℕ} {t : Nodes} (u : NodesUpto b n k t) (s : Node) (e : Some (kinds.Node s) ≡ record_of (record_at k b)) where
   abbrev node : IsNode (record_at k b) s
-  node = is_node (record_at k b) e h
+  node = is_node (record_at k b) e
 
   node_at_lem : steps s.path ≡ node.row.0
-  node_at_lem = ap steps node.path ∙ view_path node.row.0
+  node_at_lem = ap (λ (a : Node). steps a.path) node.is ∙ view_path node.row.0
 
   pub node_path_sound : PathSound s.path
-  node_path_sound = path_sound b k (node_record node.row) node.found node.path
+  node_path_sound = path_sound b k (node_record node.row) node.found (ap (λ (a : Node). a.path) node.is)
 
   pub node_none_after : NoneAfter (steps s.path) (view_nodes t)
   node_none_after = subst (λ (p : Address). NoneAfter p (view_nodes t)) (sym node_at_lem) (node_behind b k _ u.upto node.row node.found)
@@ -104,7 +106,7 @@ module _ {b : List ℕ} {n k : ℕ} {t : Nodes} (u : NodesUpto b n k t) (s : par
   node_breaks c f = breaks_fit b k _ u.upto (node_record node.row) node.found n c (sym node_test ∙ f)
 
   abbrev pub with_node : Nodes
-  with_node = nodes_with (set t.rows t.count (node_row s.path s.owner)) (t.count + 1)
+  with_node = nodes_with (set t.rows t.count s) (t.count + 1)
 
   module _ (f : node_fits_in (steps s.path) (view_nodes t) ≡ true) where
     more_nodes : Upto b (suc k) (record { nodes = view_nodes t ++ (node.row ∷ []); attributes = []; permissions = [] })
@@ -118,7 +120,7 @@ module _ {b : List ℕ} {n k : ℕ} {t : Nodes} (u : NodesUpto b n k t) (s : par
         omega arith
 
     stored_node : with_node ≡ nodes_of (view_nodes t ++ (node.row ∷ []))
-    stored_node = node_stored t u.sound node_room node.row (node_row s.path s.owner) (λ i. node_row (node.path i) (node.owner i))
+    stored_node = node_stored t u.sound node_room node.row s node.is
 
     seen_node : view_nodes with_node ≡ view_nodes t ++ (node.row ∷ [])
     seen_node = ap view_nodes stored_node ∙ view_nodes_lem (view_nodes t ++ (node.row ∷ []))
@@ -128,7 +130,7 @@ module _ {b : List ℕ} {n k : ℕ} {t : Nodes} (u : NodesUpto b n k t) (s : par
     keys_more q f =
         let c = nodes_count t u.sound ∙ sym (length-map (view_nodes t) key_of_row) in
         let m = node_room in
-        ap₂ (λ l y. set l t.count y) q (f ∙ ap key_of node.path)
+        ap₂ (λ l y. set l t.count y) q (f ∙ ap (λ (a : Node). key_of a.path) node.is)
         ∙ slots_next 64 0 (keys_of (view_nodes t)) (number node.row.0) t.count (omega arith) (sym c)
         ∙ ap (slots 64 0) (map_one key_of_row (view_nodes t) node.row ∙ ap keys_of (sym seen_node))
 
@@ -157,18 +159,18 @@ attributes_begin {b} {n} {k} {nodes} u e =
 abbrev pub answer_at : Nodes → Attributes → Path → ℕ → ℕ → ℕ → Bool
 answer_at nodes t p name i j = attribute_tests (there (owner_in (steps p) (view_nodes nodes))) t.count (get_or t.rows i no_attribute) (get_or t.rows j no_attribute) p name
 
-module _ {b : List ℕ} {n k : ℕ} {nodes : Nodes} {t : Attributes} (u : AttributesUpto b n k nodes t) (s : parsed.Record) (e : s ≡ record_of (record_at k b)) (h : s.kind ≡ 2) where
+module _ {b : List ℕ} {n k : ℕ} {nodes : Nodes} {t : Attributes} (u : AttributesUpto b n k nodes t) (s : Attribute) (e : Some (kinds.Attribute s) ≡ record_of (record_at k b)) where
   abbrev whole : things.Dossier
   whole = record { nodes = view_nodes nodes; attributes = view_attributes t; permissions = [] }
 
   abbrev attribute : IsAttribute (record_at k b) s
-  attribute = is_attribute (record_at k b) e h
+  attribute = is_attribute (record_at k b) e
 
   attribute_at_lem : ◌≡◌ {A = Object} (steps s.path, s.name) (attribute.row.0, attribute.row.1.name)
-  attribute_at_lem = let p = ap steps attribute.path ∙ view_path attribute.row.0 in let m = attribute.name in λ i. (p i, m i)
+  attribute_at_lem = let p = ap (λ (a : Attribute). steps a.path) attribute.is ∙ view_path attribute.row.0 in let m = ap (λ (a : Attribute). a.name) attribute.is in λ i. (p i, m i)
 
   pub attribute_path_sound : PathSound s.path
-  attribute_path_sound = path_sound b k (attribute_record attribute.row) attribute.found attribute.path
+  attribute_path_sound = path_sound b k (attribute_record attribute.row) attribute.found (ap (λ (a : Attribute). a.path) attribute.is)
 
   abbrev pub attribute_answer : Bool
   attribute_answer = answer_at nodes t s.path s.name (t.count - 1) (t.count - 16)
@@ -187,7 +189,7 @@ module _ {b : List ℕ} {n k : ℕ} {nodes : Nodes} {t : Attributes} (u : Attrib
   attribute_breaks c f = breaks_fit b k whole u.upto (attribute_record attribute.row) attribute.found n c (sym attribute_test ∙ f)
 
   abbrev pub with_attribute : Attributes
-  with_attribute = attributes_with (set t.rows t.count (attribute_from s)) (t.count + 1)
+  with_attribute = attributes_with (set t.rows t.count s) (t.count + 1)
 
   module _ (f : attribute_answer ≡ true) where
     more_attributes : Upto b (suc k) (record { nodes = view_nodes nodes; attributes = view_attributes t ++ (attribute.row ∷ []); permissions = [] })
@@ -202,8 +204,7 @@ module _ {b : List ℕ} {n k : ℕ} {nodes : Nodes} {t : Attributes} (u : Attrib
 
     stored_attribute : with_attribute ≡ attributes_of (view_attributes t ++ (attribute.row ∷ []))
     stored_attribute =
-        attribute_stored t u.sound attribute_room attribute.row (attribute_from s)
-        (λ i. record { path = attribute.path i; name = attribute.name i; owner = attribute.owner i; value = attribute.value i })
+        attribute_stored t u.sound attribute_room attribute.row s attribute.is
 
     pub attributes_more : k < n → AttributesUpto b n (k + 1) nodes with_attribute
     attributes_more c =
@@ -213,7 +214,7 @@ module _ {b : List ℕ} {n k : ℕ} {nodes : Nodes} {t : Attributes} (u : Attrib
           on = u.on;
           sound = record { model = view_attributes t ++ (attribute.row ∷ []); same = stored_attribute; fits = (upto_fits b (suc k) _ more_attributes).attributes };
           upto = upto_one (subst (λ (l : List (Row things.Attribute)). Upto b (suc k) (record { nodes = view_nodes nodes; attributes = l; permissions = [] })) (sym v) more_attributes);
-          no_node = subst (NotOf 1 b n) (one_more k) (not_after b n k 1 (attribute_record attribute.row) attribute.found (omega arith) (omega arith));
+          no_node = subst (NotOf kinds.Node b n) (one_more k) (no_node_after b n k (attribute_record attribute.row) attribute.found (omega arith));
         }
 
 -- ---- permissions
@@ -231,20 +232,20 @@ permissions_begin {b} {n} {k} {nodes} {attributes} {t} u e =
       no_attribute = u.no_attribute;
     }
 
-module _ {b : List ℕ} {n k : ℕ} {nodes : Nodes} {attributes : Attributes} {t : Permissions} (u : PermissionsUpto b n k nodes attributes t) (s : parsed.Record) (e : s ≡ record_of (record_at k b)) where
+module _ {b : List ℕ} {n k : ℕ} {nodes : Nodes} {attributes : Attributes} {t : Permissions} (u : PermissionsUpto b n k nodes attributes t) where
   abbrev all : things.Dossier
   all = record { nodes = view_nodes nodes; attributes = view_attributes attributes; permissions = view_permissions t }
 
   -- no permission, and no other record either
-  other_breaks : k < n → (s.kind ≡ 3 → ⊥) → Breaks b n k
-  other_breaks c f = breaks_none b k all u.upto n c (is_none (record_at k b) e (u.no_node c) (u.no_attribute c) f)
+  pub other_breaks : k < n → ((a : Permission) → record_of (record_at k b) ≡ Some (kinds.Permission a) → ⊥) → Breaks b n k
+  other_breaks c f = breaks_none b k all u.upto n c (is_none (record_at k b) (u.no_node c) (u.no_attribute c) f)
 
-  module _ (h : s.kind ≡ 3) where
+  module _ (s : Permission) (e : Some (kinds.Permission s) ≡ record_of (record_at k b)) where
     abbrev permission : IsPermission (record_at k b) s
-    permission = is_permission (record_at k b) e h
+    permission = is_permission (record_at k b) e
 
     permission_at_lem : ◌≡◌ {A = Object} (steps s.path, s.name) (permission.row.0, permission.row.1.0)
-    permission_at_lem = let p = ap steps permission.path ∙ view_path permission.row.0 in let m = permission.name in λ i. (p i, m i)
+    permission_at_lem = let p = ap (λ (a : Permission). steps a.path) permission.is ∙ view_path permission.row.0 in let m = ap (λ (a : Permission). a.name) permission.is in λ i. (p i, m i)
 
     -- of the rows that are there none is of an object that comes after the record's
     pub permission_none_after : (x : Row (ℕ × things.Permission)) → x ∈ view_permissions t → T (before_object (steps s.path, s.name) (of_permission x)) → ⊥
@@ -263,7 +264,7 @@ module _ {b : List ℕ} {n k : ℕ} {nodes : Nodes} {attributes : Attributes} {t
     over_test =
         let o = permission_at_lem in
         let c = permissions_count t u.sound in
-        let g = ap view_grant permission.grant in
+        let g = ap (λ (a : Permission). view_grant a.grant) permission.is in
         λ i. leb 128 (c i) || clash_any (g i) (permissions_in (o i).0 (o i).1 (view_permissions t))
 
     breaks : k < n → (T (fits all (permission_record permission.row)) → ⊥) → Breaks b n k
@@ -280,7 +281,7 @@ module _ {b : List ℕ} {n k : ℕ} {nodes : Nodes} {attributes : Attributes} {t
     over_breaks c f = breaks c (λ w. over_not (length (view_permissions t)) (clash_any permission.row.1.1 (permissions_in permission.row.0 permission.row.1.0 (view_permissions t))) (sym over_test ∙ f) (parts w).1 (parts w).2)
 
     abbrev pub with_permission : Permissions
-    with_permission = permissions_with (set t.rows t.count (permission_from s)) (t.count + 1)
+    with_permission = permissions_with (set t.rows t.count s) (t.count + 1)
 
     module _ (f : object_in (steps s.path) s.name all ≡ true) (g : over ≡ false) where
       fit : T (fits all (permission_record permission.row))
@@ -301,8 +302,7 @@ module _ {b : List ℕ} {n k : ℕ} {nodes : Nodes} {attributes : Attributes} {t
 
       stored_permission : with_permission ≡ permissions_of (view_permissions t ++ (permission.row ∷ []))
       stored_permission =
-          permission_stored t u.sound room_behind permission.row (permission_from s)
-          (λ i. record { path = permission.path i; name = permission.name i; grant = permission.grant i })
+          permission_stored t u.sound room_behind permission.row s permission.is
 
       one_behind : k < n → PermissionsUpto b n (k + 1) nodes attributes with_permission
       one_behind c =
@@ -313,36 +313,29 @@ module _ {b : List ℕ} {n k : ℕ} {nodes : Nodes} {attributes : Attributes} {t
             of = u.of;
             sound = record { model = view_permissions t ++ (permission.row ∷ []); same = stored_permission; fits = (upto_fits b (suc k) _ more_permissions).permissions };
             upto = upto_one (subst (λ (l : List (Row (ℕ × things.Permission))). Upto b (suc k) (record { nodes = view_nodes nodes; attributes = view_attributes attributes; permissions = l })) (sym v) more_permissions);
-            no_node = subst (NotOf 1 b n) (one_more k) (not_after b n k 1 (permission_record permission.row) permission.found (omega arith) (omega arith));
-            no_attribute = subst (NotOf 2 b n) (one_more k) (not_after b n k 2 (permission_record permission.row) permission.found (omega arith) (omega arith));
+            no_node = subst (NotOf kinds.Node b n) (one_more k) (no_node_after b n k (permission_record permission.row) permission.found (omega arith));
+            no_attribute = subst (NotOf kinds.Attribute b n) (one_more k) (no_attribute_after b n k (permission_record permission.row) permission.found (omega arith));
           }
 
-  -- all that the code asks, in one test
-  abbrev pub permission_answer : Bool
-  permission_answer =
-      not (eqb s.kind 3)
-      || (leb 128 t.count || (not (object_in (steps s.path) s.name all) || clash_any (view_grant s.grant) (permissions_in (steps s.path) s.name (view_permissions t))))
+    pub permission_path_sound : PathSound s.path
+    permission_path_sound = path_sound b k (permission_record permission.row) permission.found (ap (λ (a : Permission). a.path) permission.is)
 
-  pub permission_path_sound : PathSound s.path
-  permission_path_sound = any_path_sound b k s e
+    -- all that the code asks, in one test
+    abbrev pub permission_answer : Bool
+    permission_answer = leb 128 t.count || (not (object_in (steps s.path) s.name all) || clash_any (view_grant s.grant) (permissions_in (steps s.path) s.name (view_permissions t)))
 
-  pub permission_breaks : k < n → permission_answer ≡ true → Breaks b n k
-  permission_breaks c f =
-      cases (eqb s.kind 3)
-      (λ h. let i = eqb-true s.kind 3 h in
-      cases (object_in (steps s.path) s.name all)
-      (λ o. over_breaks i c (rw (h, o) at f))
-      (λ o. object_breaks i c o))
-      (λ h. other_breaks c (eqb-false s.kind 3 h))
+    pub permission_breaks : k < n → permission_answer ≡ true → Breaks b n k
+    permission_breaks c f =
+        cases (object_in (steps s.path) s.name all)
+        (λ o. over_breaks c (rw o at f))
+        (λ o. object_breaks c o)
 
-  module _ (f : permission_answer ≡ false) where
-    parts_of : (s.kind ≡ 3) × (object_in (steps s.path) s.name all ≡ true) × ((leb 128 t.count || clash_any (view_grant s.grant) (permissions_in (steps s.path) s.name (view_permissions t))) ≡ false)
-    parts_of =
-        let w = four (eqb s.kind 3) (leb 128 t.count) (object_in (steps s.path) s.name all) (clash_any (view_grant s.grant) (permissions_in (steps s.path) s.name (view_permissions t))) f in
-        (eqb-true s.kind 3 w.0, w.1, w.2)
+    module _ (f : permission_answer ≡ false) where
+      parts_of : (object_in (steps s.path) s.name all ≡ true) × ((leb 128 t.count || clash_any (view_grant s.grant) (permissions_in (steps s.path) s.name (view_permissions t))) ≡ false)
+      parts_of = three (leb 128 t.count) (object_in (steps s.path) s.name all) (clash_any (view_grant s.grant) (permissions_in (steps s.path) s.name (view_permissions t))) f
 
-    pub permission_room : t.count < 128
-    permission_room = let w = parts_of in room_behind w.0 w.1 w.2
+      pub permission_room : t.count < 128
+      permission_room = let w = parts_of in room_behind w.0 w.1
 
-    pub permissions_more : k < n → PermissionsUpto b n (k + 1) nodes attributes (permissions_with (set t.rows t.count (permission_from s)) (t.count + 1))
-    permissions_more c = let w = parts_of in one_behind w.0 w.1 w.2 c
+      pub permissions_more : k < n → PermissionsUpto b n (k + 1) nodes attributes (permissions_with (set t.rows t.count s) (t.count + 1))
+      permissions_more c = let w = parts_of in one_behind w.0 w.1 c

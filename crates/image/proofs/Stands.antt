@@ -1,7 +1,8 @@
--- The struct that stands for a record of an image, by its kind; and that kinds never fall. Assumes nothing.
+-- The row that a record of an image is, by its kind; and that kinds never fall. Assumes nothing.
 use mathlib.Core.Path.{◌≡◌, refl, sym, ap, ◌∙◌}
-use mathlib.Core.Option.{Option, none, some}
-use mathlib.Core.List.{List, []}
+use mathlib.Core.Option as math
+use mathlib.Core.Option.{none, some}
+use mathlib.Core.List.{List}
 use Prim.Native.Nat.{ℕ, suc, ◌<◌}
 use native.Mathlib.Omega.{arith}
 use lib.Dec.{T}
@@ -12,80 +13,93 @@ use Rattle.model.specs.Things.{Row}
 use Rattle.model.specs.Image.{Record, node_record, attribute_record, permission_record, encode}
 use Rattle.roundtrip.proofs.Records as laid
 use Rattle.roundtrip.proofs.Bytes.{less}
-use Rattle.tables.specs.View.{value_of, grant_of}
-use Rattle.tables.proofs.Rows.{blank_path_lem}
+use Rattle.std.proofs.Common.{Option, Some, None}
+use Rattle.tables.specs.declared.Node.{Node}
+use Rattle.tables.specs.declared.Attribute.{Attribute}
+use Rattle.tables.specs.declared.Permission.{Permission}
+use Rattle.tables.specs.View.{node_of, attribute_of, permission_of}
 use Rattle.parse.specs.declared.Record as parsed
+use Rattle.parse.specs.declared.Record.TheVariants as kinds
 use Rattle.parse.specs.View.{record_of}
 use Rattle.image.specs.Records.{record_at}
 use Rattle.image.specs.Rows.{NotOf}
 use Rattle.image.proofs.Steps.{record_range, after_record}
 
--- ---- what a struct of each kind stands for
-pub record IsNode (o : Option Record) (s : parsed.Record) : Type 0 where
+-- a record's kind, 0 where there is none
+abbrev kind : Option parsed.Record → ℕ
+kind None = 0
+kind (Some (kinds.Node a)) = 1
+kind (Some (kinds.Attribute a)) = 2
+kind (Some (kinds.Permission a)) = 3
+
+-- ---- what a record of each kind stands for
+pub record IsNode (o : math.Option Record) (a : Node) : Type 0 where
   pub row : Row ℕ
   pub found : o ≡ some (node_record row)
-  pub path : s.path ≡ path_of row.0
-  pub owner : s.owner ≡ row.1
+  pub is : a ≡ node_of row
 
-pub record IsAttribute (o : Option Record) (s : parsed.Record) : Type 0 where
+pub record IsAttribute (o : math.Option Record) (a : Attribute) : Type 0 where
   pub row : Row things.Attribute
   pub found : o ≡ some (attribute_record row)
-  pub path : s.path ≡ path_of row.0
-  pub name : s.name ≡ row.1.name
-  pub owner : s.owner ≡ row.1.owner
-  pub value : s.value ≡ value_of row.1.value
+  pub is : a ≡ attribute_of row
 
-pub record IsPermission (o : Option Record) (s : parsed.Record) : Type 0 where
+pub record IsPermission (o : math.Option Record) (a : Permission) : Type 0 where
   pub row : Row (ℕ × things.Permission)
   pub found : o ≡ some (permission_record row)
-  pub path : s.path ≡ path_of row.0
-  pub name : s.name ≡ row.1.0
-  pub grant : s.grant ≡ grant_of row.1.1
+  pub is : a ≡ permission_of row
 
-module _ {s : parsed.Record} where
-  kind_is : (o : Option Record) (n : ℕ) → s ≡ record_of o → s.kind ≡ n → (record_of o).kind ≡ n
-  kind_is o n e h = ap (λ x. x.kind) (sym e) ∙ h
+-- two of one kind that are the same
+abbrev node_in : Node → Option parsed.Record → Node
+node_in d None = d
+node_in d (Some (kinds.Node a)) = a
+node_in d (Some (kinds.Attribute a)) = d
+node_in d (Some (kinds.Permission a)) = d
 
-  pub is_node : (o : Option Record) → s ≡ record_of o → s.kind ≡ 1 → IsNode o s
-  is_node none e h = absurd (let z = kind_is none 1 e h in omega arith)
-  is_node (some (node_record r)) e h = record { row = r; found = refl; path = ap (λ x. x.path) e; owner = ap (λ x. x.owner) e }
-  is_node (some (attribute_record r)) e h = absurd (let z = kind_is (some (attribute_record r)) 1 e h in omega arith)
-  is_node (some (permission_record r)) e h = absurd (let z = kind_is (some (permission_record r)) 1 e h in omega arith)
+abbrev attribute_in : Attribute → Option parsed.Record → Attribute
+attribute_in d None = d
+attribute_in d (Some (kinds.Node a)) = d
+attribute_in d (Some (kinds.Attribute a)) = a
+attribute_in d (Some (kinds.Permission a)) = d
 
-  pub is_attribute : (o : Option Record) → s ≡ record_of o → s.kind ≡ 2 → IsAttribute o s
-  is_attribute none e h = absurd (let z = kind_is none 2 e h in omega arith)
-  is_attribute (some (node_record r)) e h = absurd (let z = kind_is (some (node_record r)) 2 e h in omega arith)
-  is_attribute (some (attribute_record r)) e h =
-      record { row = r; found = refl; path = ap (λ x. x.path) e; name = ap (λ x. x.name) e; owner = ap (λ x. x.owner) e; value = ap (λ x. x.value) e }
-  is_attribute (some (permission_record r)) e h = absurd (let z = kind_is (some (permission_record r)) 2 e h in omega arith)
+abbrev permission_in : Permission → Option parsed.Record → Permission
+permission_in d None = d
+permission_in d (Some (kinds.Node a)) = d
+permission_in d (Some (kinds.Attribute a)) = d
+permission_in d (Some (kinds.Permission a)) = a
 
-  pub is_permission : (o : Option Record) → s ≡ record_of o → s.kind ≡ 3 → IsPermission o s
-  is_permission none e h = absurd (let z = kind_is none 3 e h in omega arith)
-  is_permission (some (node_record r)) e h = absurd (let z = kind_is (some (node_record r)) 3 e h in omega arith)
-  is_permission (some (attribute_record r)) e h = absurd (let z = kind_is (some (attribute_record r)) 3 e h in omega arith)
-  is_permission (some (permission_record r)) e h =
-      record { row = r; found = refl; path = ap (λ x. x.path) e; name = ap (λ x. x.name) e; grant = ap (λ x. x.grant) e }
+pub is_node : {a : Node} (o : math.Option Record) → Some (kinds.Node a) ≡ record_of o → IsNode o a
+is_node none e = absurd (let z : 1 ≡ 0 = ap kind e in omega arith)
+is_node {a} (some (node_record r)) e = record { row = r; found = refl; is = ap (node_in a) e }
+is_node (some (attribute_record r)) e = absurd (let z : 1 ≡ 2 = ap kind e in omega arith)
+is_node (some (permission_record r)) e = absurd (let z : 1 ≡ 3 = ap kind e in omega arith)
 
-  -- of no kind, no record
-  pub is_none : (o : Option Record) → s ≡ record_of o → ((record_of o).kind ≡ 1 → ⊥) → ((record_of o).kind ≡ 2 → ⊥) → (s.kind ≡ 3 → ⊥) → o ≡ none
-  is_none none e a b c = refl
-  is_none (some (node_record r)) e a b c = absurd (a refl)
-  is_none (some (attribute_record r)) e a b c = absurd (b refl)
-  is_none (some (permission_record r)) e a b c = absurd (c (ap (λ x. x.kind) e))
+pub is_attribute : {a : Attribute} (o : math.Option Record) → Some (kinds.Attribute a) ≡ record_of o → IsAttribute o a
+is_attribute none e = absurd (let z : 2 ≡ 0 = ap kind e in omega arith)
+is_attribute (some (node_record r)) e = absurd (let z : 2 ≡ 1 = ap kind e in omega arith)
+is_attribute {a} (some (attribute_record r)) e = record { row = r; found = refl; is = ap (attribute_in a) e }
+is_attribute (some (permission_record r)) e = absurd (let z : 2 ≡ 3 = ap kind e in omega arith)
+
+pub is_permission : {a : Permission} (o : math.Option Record) → Some (kinds.Permission a) ≡ record_of o → IsPermission o a
+is_permission none e = absurd (let z : 3 ≡ 0 = ap kind e in omega arith)
+is_permission (some (node_record r)) e = absurd (let z : 3 ≡ 1 = ap kind e in omega arith)
+is_permission (some (attribute_record r)) e = absurd (let z : 3 ≡ 2 = ap kind e in omega arith)
+is_permission {a} (some (permission_record r)) e = record { row = r; found = refl; is = ap (permission_in a) e }
+
+-- a row that was found in a record
+pub row_is : {A : Type 0} (make : A → parsed.Record) {r o : Option parsed.Record} {f : parsed.Record} {a : A} → r ≡ Some f → f ≡ make a → r ≡ o → Some (make a) ≡ o
+row_is make e f g = sym (e ∙ ap Some f) ∙ g
+
+-- of no kind, no record
+pub is_none : (o : math.Option Record) → ((a : Node) → record_of o ≡ Some (kinds.Node a) → ⊥) → ((a : Attribute) → record_of o ≡ Some (kinds.Attribute a) → ⊥)
+    → ((a : Permission) → record_of o ≡ Some (kinds.Permission a) → ⊥) → o ≡ none
+is_none none f g h = refl
+is_none (some (node_record r)) f g h = absurd (f (node_of r) refl)
+is_none (some (attribute_record r)) f g h = absurd (g (attribute_of r) refl)
+is_none (some (permission_record r)) f g h = absurd (h (permission_of r) refl)
 
 -- the path of a record's struct is sound
 pub path_sound : (b : List ℕ) (k : ℕ) (r : Record) {p : Path} → record_at k b ≡ some r → p ≡ path_of (laid.path_of r) → PathSound p
 path_sound b k r e h = record { model = laid.path_of r; same = h; fits = laid.path_valid r (record_range b k r e) }
-
--- also where there is no record
-pub any_path_sound : (b : List ℕ) (k : ℕ) (s : parsed.Record) → s ≡ record_of (record_at k b) → PathSound s.path
-any_path_sound b k s e = go (record_at k b) refl
-  where
-    go : (o : Option Record) → record_at k b ≡ o → PathSound s.path
-    go none f = record { model = []; same = ap (λ x. x.path) (e ∙ ap record_of f) ∙ sym blank_path_lem; fits = tt }
-    go (some (node_record r)) f = path_sound b k (node_record r) f (ap (λ x. x.path) (e ∙ ap record_of f))
-    go (some (attribute_record r)) f = path_sound b k (attribute_record r) f (ap (λ x. x.path) (e ∙ ap record_of f))
-    go (some (permission_record r)) f = path_sound b k (permission_record r) f (ap (λ x. x.path) (e ∙ ap record_of f))
 
 -- ---- the record after one of a kind is of no lesser kind
 kinds_rise : (r z : Record) → T (less (encode r) (encode z)) → laid.kind_of z < laid.kind_of r → ⊥
@@ -99,14 +113,22 @@ kinds_rise (permission_record r) (node_record z) t h = t
 kinds_rise (permission_record r) (attribute_record z) t h = t
 kinds_rise (permission_record r) (permission_record z) t h = omega arith
 
-kind_of_lem : (r : Record) → (record_of (some r)).kind ≡ laid.kind_of r
+kind_of_lem : (r : Record) → kind (record_of (some r)) ≡ laid.kind_of r
 kind_of_lem (node_record r) = refl
 kind_of_lem (attribute_record r) = refl
 kind_of_lem (permission_record r) = refl
 
-pub not_after : (b : List ℕ) (n k kind : ℕ) (r : Record) → record_at k b ≡ some r → 0 < kind → kind < laid.kind_of r → NotOf kind b n (suc k)
-not_after b n k kind r e p h q f = go (record_at (suc k) b) refl f
+-- behind record k, of a later kind, comes none of the kind numbered m
+not_behind : {A : Type 0} (make : A → parsed.Record) (m : ℕ) → ((a : A) → kind (Some (make a)) ≡ m) → (b : List ℕ) (n k : ℕ) (r : Record) → record_at k b ≡ some r → 0 < m → m < laid.kind_of r
+    → NotOf make b n (suc k)
+not_behind {A} make m is b n k r e p h q a f = go (record_at (suc k) b) refl f
   where
-    go : (o : Option Record) → record_at (suc k) b ≡ o → (record_of o).kind ≡ kind → ⊥
-    go none d g = let z : 0 ≡ kind = g in omega arith
-    go (some z) d g = let y : laid.kind_of z ≡ kind = sym (kind_of_lem z) ∙ g in kinds_rise r z (after_record b k r z e d) (omega arith)
+    go : (o : math.Option Record) → record_at (suc k) b ≡ o → record_of o ≡ Some (make a) → ⊥
+    go none d g = let z : 0 ≡ m = ap kind g ∙ is a in omega arith
+    go (some z) d g = let y : laid.kind_of z ≡ m = sym (kind_of_lem z) ∙ ap kind g ∙ is a in kinds_rise r z (after_record b k r z e d) (omega arith)
+
+pub no_node_after : (b : List ℕ) (n k : ℕ) (r : Record) → record_at k b ≡ some r → 1 < laid.kind_of r → NotOf kinds.Node b n (suc k)
+no_node_after b n k r e h = not_behind kinds.Node 1 (λ a. refl) b n k r e (omega arith) h
+
+pub no_attribute_after : (b : List ℕ) (n k : ℕ) (r : Record) → record_at k b ≡ some r → 2 < laid.kind_of r → NotOf kinds.Attribute b n (suc k)
+no_attribute_after b n k r e h = not_behind kinds.Attribute 2 (λ a. refl) b n k r e (omega arith) h

@@ -1,12 +1,13 @@
 -- What an image loads as, from its length and from how far its records are good. Assumes nothing.
-use mathlib.Core.Path.{◌≡◌, refl, sym, ap, subst, ◌∙◌}
+use mathlib.Core.Path.{◌≡◌, refl, sym, ap, ◌∙◌}
 use mathlib.Core.Bool.{Bool, true, false, not, ◌||◌}
 use mathlib.Core.List.{List, []}
-use Prim.Native.Nat.{ℕ, ◌+◌, ◌*◌, ◌/◌, ◌%◌, ◌≤◌}
+use Prim.Native.Nat.{ℕ, ◌*◌, ◌/◌, ◌%◌, ◌≤◌}
 use native.Mathlib.Omega.{arith}
 use lib.Dec.{eqb, ltb}
 use lib.ListN.{length}
 use borrow.Author.Tests.{eqb-true, ltb-false}
+use Rattle.std.proofs.Common.{Ok, Err}
 use Rattle.laws.specs.Slots.{pick}
 use Rattle.path.proofs.Structs.{no}
 use Rattle.model.specs.Image.{accept, records, bad, scan, no_records, load}
@@ -15,35 +16,10 @@ use Rattle.tables.specs.declared.Nodes.{Nodes}
 use Rattle.tables.specs.declared.Attributes.{Attributes}
 use Rattle.tables.specs.declared.Permissions.{Permissions}
 use Rattle.tables.proofs.Tables.{nodes_same, attributes_same, permissions_same}
-use Rattle.image.specs.declared.Loaded.{Loaded}
-use Rattle.image.specs.declared.nodes.NodesRead.{NodesRead}
-use Rattle.image.specs.declared.attributes.AttributesRead.{AttributesRead}
-use Rattle.image.specs.declared.permissions.PermissionsRead.{PermissionsRead}
+use Rattle.image.specs.declared.BadRecord.{BadRecord}
 use Rattle.image.specs.View.{loaded_of}
-use Rattle.image.specs.Records.{Breaks}
-use Rattle.image.specs.Rows.{NodesDone, AttributesDone, PermissionsUpto}
-
--- ---- what the flag of each part says
-module _ (b : List ℕ) (n : ℕ) (r : NodesRead) (x : pick r.ok (NodesDone b n r.next r.table) (Breaks b n r.next)) where
-  pub nodes_yes : r.ok ≡ true → NodesDone b n r.next r.table
-  nodes_yes e = subst (λ (t : Bool). pick t (NodesDone b n r.next r.table) (Breaks b n r.next)) e x
-
-  pub nodes_no : r.ok ≡ false → Breaks b n r.next
-  nodes_no e = subst (λ (t : Bool). pick t (NodesDone b n r.next r.table) (Breaks b n r.next)) e x
-
-module _ (b : List ℕ) (n : ℕ) (nodes : Nodes) (r : AttributesRead) (x : pick r.ok (AttributesDone b n r.next nodes r.table) (Breaks b n r.next)) where
-  pub attributes_yes : r.ok ≡ true → AttributesDone b n r.next nodes r.table
-  attributes_yes e = subst (λ (t : Bool). pick t (AttributesDone b n r.next nodes r.table) (Breaks b n r.next)) e x
-
-  pub attributes_no : r.ok ≡ false → Breaks b n r.next
-  attributes_no e = subst (λ (t : Bool). pick t (AttributesDone b n r.next nodes r.table) (Breaks b n r.next)) e x
-
-module _ (b : List ℕ) (n : ℕ) (nodes : Nodes) (attributes : Attributes) (r : PermissionsRead) (x : pick r.ok (PermissionsUpto b n n nodes attributes r.table) (Breaks b n r.next)) where
-  pub permissions_yes : r.ok ≡ true → PermissionsUpto b n n nodes attributes r.table
-  permissions_yes e = subst (λ (t : Bool). pick t (PermissionsUpto b n n nodes attributes r.table) (Breaks b n r.next)) e x
-
-  pub permissions_no : r.ok ≡ false → Breaks b n r.next
-  permissions_no e = subst (λ (t : Bool). pick t (PermissionsUpto b n n nodes attributes r.table) (Breaks b n r.next)) e x
+use Rattle.image.specs.Records.{Blames}
+use Rattle.image.specs.Rows.{PermissionsUpto}
 
 -- ---- the whole image
 pub whole_records : (n : ℕ) → bad_length n ≡ false → n ≡ n / 40 * 40
@@ -70,14 +46,13 @@ module _ (b : List ℕ) where
     scans : load b ≡ scan accept 1 [] no_records (records (length b / 40) b)
     scans = ap (λ (t : Bool). pick t (bad 0) (scan accept 1 [] no_records (records (length b / 40) b))) e
 
-    pub record_bad : {k : ℕ} → Breaks b (length b / 40) k → loaded_of (bad (k + 1)) ≡ loaded_of (load b)
-    record_bad u = ap loaded_of (sym (scans ∙ u.scanned))
+    pub record_bad : {r : BadRecord} → Blames b (length b / 40) r.number → Err r ≡ loaded_of (load b)
+    record_bad u = (λ i. Err (record { number = u.counted i })) ∙ ap loaded_of (sym (scans ∙ u.breaks.scanned))
 
     pub all_good : {nodes : Nodes} {attributes : Attributes} {permissions : Permissions} → PermissionsUpto b (length b / 40) (length b / 40) nodes attributes permissions
-        → ◌≡◌ {A = Loaded} (record { good = true; «record» = 0; dossier = record { nodes = nodes; attributes = attributes; permissions = permissions } }) (loaded_of (load b))
+        → Ok (record { nodes = nodes; attributes = attributes; permissions = permissions }) ≡ loaded_of (load b)
     all_good {nodes} {attributes} {permissions} u =
         let x = nodes_same nodes u.on in
         let y = attributes_same attributes u.of in
         let z = permissions_same permissions u.sound in
-        (λ i. record { good = true; «record» = 0; dossier = record { nodes = x i; attributes = y i; permissions = z i } })
-        ∙ ap loaded_of (sym (scans ∙ u.upto.scanned))
+        (λ i. Ok (record { nodes = x i; attributes = y i; permissions = z i })) ∙ ap loaded_of (sym (scans ∙ u.upto.scanned))

@@ -25,3 +25,9 @@ pub record Upto (b : List ℕ) (k : ℕ) (d : Dossier) : Type 0 where
 pub record Breaks (b : List ℕ) (n k : ℕ) : Type 0 where
   pub inside : k < n
   pub scanned : scan accept 1 [] no_records (records n b) ≡ bad (k + 1)
+
+-- of n records, the first bad one has that number, counted from 1
+pub record Blames (b : List ℕ) (n number : ℕ) : Type 0 where
+  pub place : ℕ
+  pub breaks : Breaks b n place
+  pub counted : number ≡ place + 1

@@ -1,5 +1,5 @@
 -- The tables as an image is read: its nodes, then its attributes, then its permissions, each row behind those that are there.
-use Rattle.std.specs.Prelude.{◌≡◌, Bool, ◌&&◌, ◌||◌, List, [], ℕ, ◌≤◌, ◌<◌, T, eqb, ltb, length}
+use Rattle.std.specs.Prelude.{◌≡◌, Bool, ◌&&◌, ◌||◌, List, [], ℕ, ◌≤◌, ◌<◌, T, eqb, ltb, length, Some}
 use Rattle.laws.specs.Sorted.{◌∈◌}
 use Rattle.path.specs.declared.Path.{Path}
 use Rattle.path.specs.Address.{Address, before, parent}
@@ -9,13 +9,13 @@ use Rattle.model.specs.Things.{Row}
 use Rattle.model.specs.Moves.{owner_in, attribute_in, names_in}
 use Rattle.model.specs.Image.{node_fits, attribute_fits, left, there}
 use Rattle.tables.specs.declared.Attribute.{Attribute}
-use Rattle.tables.specs.declared.Permission.{Permission}
 use Rattle.tables.specs.declared.Nodes.{Nodes}
 use Rattle.tables.specs.declared.Attributes.{Attributes}
 use Rattle.tables.specs.declared.Permissions.{Permissions}
 use Rattle.tables.specs.View.{view_nodes, NodesSound, view_attributes, AttributesSound, view_permissions, PermissionsSound}
 use Rattle.tables.specs.Places.{before_object}
 use Rattle.parse.specs.declared.Record.{Record}
+use Rattle.parse.specs.declared.Record.TheVariants as kinds
 use Rattle.parse.specs.View.{record_of}
 use Rattle.image.specs.Records.{record_at, Upto}
 
@@ -35,17 +35,9 @@ abbrev pub attribute_tests : Bool → ℕ → Attribute → Attribute → Path �
 attribute_tests node count last far p name =
     node && ((eqb count 0 || before_object (steps last.path, last.name) (steps p, name)) && (ltb count 256 && (ltb count 16 || before (steps far.path) (steps p))))
 
--- an attribute's record as a row
-abbrev pub attribute_from : Record → Attribute
-attribute_from r = record { path = r.path; name = r.name; owner = r.owner; value = r.value }
-
--- a permission's record as a row
-abbrev pub permission_from : Record → Permission
-permission_from r = record { path = r.path; name = r.name; grant = r.grant }
-
 -- record k, if there is one, is not of that kind
-abbrev pub NotOf : ℕ → List ℕ → ℕ → ℕ → Type 0
-NotOf kind b n k = k < n → (record_of (record_at k b)).kind ≡ kind → ⊥
+abbrev pub NotOf : {A : Type 0} → (A → Record) → List ℕ → ℕ → ℕ → Type 0
+NotOf {A} kind b n k = k < n → (a : A) → record_of (record_at k b) ≡ Some (kind a) → ⊥
 
 -- ---- the nodes: k of n records are read
 pub record NodesUpto (b : List ℕ) (n k : ℕ) (t : Nodes) : Type 0 where
@@ -55,7 +47,7 @@ pub record NodesUpto (b : List ℕ) (n k : ℕ) (t : Nodes) : Type 0 where
 
 pub record NodesDone (b : List ℕ) (n k : ℕ) (t : Nodes) : Type 0 where
   pub read : NodesUpto b n k t
-  pub no_node : NotOf 1 b n k
+  pub no_node : NotOf kinds.Node b n k
 
 -- ---- the attributes
 pub record AttributesUpto (b : List ℕ) (n k : ℕ) (nodes : Nodes) (t : Attributes) : Type 0 where
@@ -63,11 +55,11 @@ pub record AttributesUpto (b : List ℕ) (n k : ℕ) (nodes : Nodes) (t : Attrib
   pub on : NodesSound nodes
   pub sound : AttributesSound t
   pub upto : Upto b k (record { nodes = view_nodes nodes; attributes = view_attributes t; permissions = [] })
-  pub no_node : NotOf 1 b n k
+  pub no_node : NotOf kinds.Node b n k
 
 pub record AttributesDone (b : List ℕ) (n k : ℕ) (nodes : Nodes) (t : Attributes) : Type 0 where
   pub read : AttributesUpto b n k nodes t
-  pub no_attribute : NotOf 2 b n k
+  pub no_attribute : NotOf kinds.Attribute b n k
 
 -- ---- the permissions
 pub record PermissionsUpto (b : List ℕ) (n k : ℕ) (nodes : Nodes) (attributes : Attributes) (t : Permissions) : Type 0 where
@@ -76,5 +68,5 @@ pub record PermissionsUpto (b : List ℕ) (n k : ℕ) (nodes : Nodes) (attribute
   pub of : AttributesSound attributes
   pub sound : PermissionsSound t
   pub upto : Upto b k (record { nodes = view_nodes nodes; attributes = view_attributes attributes; permissions = view_permissions t })
-  pub no_node : NotOf 1 b n k
-  pub no_attribute : NotOf 2 b n k
+  pub no_node : NotOf kinds.Node b n k
+  pub no_attribute : NotOf kinds.Attribute b n k

@@ -1,11 +1,12 @@
--- The struct that stands for what an image loads as.
-use Rattle.std.specs.Prelude.{true, false}
+-- What an image loads as.
+use Rattle.std.specs.Prelude.{Result, Ok, Err}
 use Rattle.model.specs.Things as things
-use Rattle.model.specs.Image.{bad, good, no_records}
+use Rattle.model.specs.Image.{bad, good}
 use Rattle.model.specs.Image as images
+use Rattle.tables.specs.declared.Dossier.{Dossier}
 use Rattle.tables.specs.View.{dossier_of}
-use Rattle.image.specs.declared.Loaded.{Loaded}
+use Rattle.image.specs.declared.BadRecord.{BadRecord}
 
-abbrev pub loaded_of : images.Loaded things.Dossier → Loaded
-loaded_of (bad k) = record { good = false; «record» = k; dossier = dossier_of no_records }
-loaded_of (good d) = record { good = true; «record» = 0; dossier = dossier_of d }
+abbrev pub loaded_of : images.Loaded things.Dossier → Result Dossier BadRecord
+loaded_of (bad k) = Err (record { number = k })
+loaded_of (good d) = Ok (dossier_of d)

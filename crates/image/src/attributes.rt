@@ -1,13 +1,13 @@
 // The attributes of an image.
-ghost use Rattle.std.specs.Prelude.{◌≡◌, ◌||◌, ◌-◌, ◌*◌, ◌≤◌, ◌<◌, eqb, ltb, length, take};
-ghost use Rattle.laws.specs.Slots.{pick};
+ghost use Rattle.std.specs.Prelude.{◌≡◌, ◌||◌, ◌*◌, ◌≤◌, ◌<◌, eqb, ltb, length, take, MatchResult};
 ghost use Rattle.path.specs.Address.{before};
 ghost use Rattle.path.specs.View.{steps, PathSound, key_of};
 ghost use Rattle.tables.specs.Places.{before_object};
-ghost use Rattle.image.specs.Records.{Breaks};
-ghost use Rattle.image.specs.Rows.{attribute_tests, attribute_from, NodesDone, AttributesDone};
+ghost use Rattle.image.specs.Records.{Blames};
+ghost use Rattle.image.specs.Rows.{attribute_tests, NodesDone, AttributesDone};
 ghost use Rattle.image.specs.Columns.{Rises, among};
 
+use crate::BadRecord;
 use crate::columns::{is_among, keys_of};
 use crate::records::record_after;
 use parse::Record;
@@ -15,23 +15,11 @@ use path::{Path, is_before, key};
 use tables::place::object_before;
 use tables::{Attribute, Attributes, Nodes, no_attributes};
 
-// ok: all records before `next` are good and the table holds the attributes; record `next` is no attribute, or there is none. Else
-// record `next` is bad. Counted from 0.
+// All records before `next` are good and the table holds the attributes; record `next`, counted from 0, is no attribute, or there is none.
 #[derive(Clone, Copy)]
 pub struct AttributesRead {
-    pub ok: bool,
     pub next: usize,
     pub table: Attributes,
-}
-
-// The place that many rows before the end, or the first.
-fn back(count: usize, rows: usize) -> usize
-    ensures { result ≡ count - rows }
-{
-    if count < rows {
-        return 0;
-    }
-    count - rows
 }
 
 // Whether the object comes after the last of so many rows.
@@ -75,54 +63,29 @@ fn attribute_fits(
     node & (fresh & ((count < 256) & room))
 }
 
-fn attribute_of(r: Record) -> Attribute
-    ensures { result ≡ attribute_from r }
-{
-    let path = r.path;
-    let value = r.value;
-    Attribute {
-        path,
-        name: r.name,
-        owner: r.owner,
-        value,
-    }
-}
-
-pub fn read_attributes(image: &[u8], from: usize, n: usize, nodes: Nodes) -> AttributesRead
+pub fn read_attributes(
+    image: &[u8],
+    from: usize,
+    n: usize,
+    nodes: Nodes,
+) -> Result<AttributesRead, BadRecord>
     requires { (length image.now ≡ n * 40) × NodesDone image.now n from nodes }
-    ensures { pick result.ok (AttributesDone image.now n result.next nodes result.table) (Breaks image.now n result.next) }
+    ensures { MatchResult result (λ a. AttributesDone image.now n a.next nodes a.table) (λ e. Blames image.now n e.number) }
 {
     let keys = keys_of(nodes);
     let mut t = no_attributes();
-    let mut k = from;
-    while k < n {
-        let r = record_after(image, k);
-        if r.kind != 2 {
-            return AttributesRead {
-                ok: true,
-                next: k,
-                table: t,
-            };
-        }
+    for k in from..n {
+        let Some(Record::Attribute(a)) = record_after(image, k) else {
+            return Ok(AttributesRead { next: k, table: t });
+        };
         let c = t.count;
-        let i = back(c, 1);
-        let j = back(c, 16);
-        let last = t.rows[i];
-        let far = t.rows[j];
-        if !attribute_fits(&keys, nodes.count, c, last, far, r.path, r.name) {
-            return AttributesRead {
-                ok: false,
-                next: k,
-                table: t,
-            };
+        let last = t.rows[c.saturating_sub(1)];
+        let far = t.rows[c.saturating_sub(16)];
+        if !attribute_fits(&keys, nodes.count, c, last, far, a.path, a.name) {
+            return Err(BadRecord { number: k + 1 });
         }
-        t.rows[c] = attribute_of(r);
+        t.rows[c] = a;
         t.count = c + 1;
-        k += 1;
     }
-    AttributesRead {
-        ok: true,
-        next: k,
-        table: t,
-    }
+    Ok(AttributesRead { next: n, table: t })
 }

@@ -9,7 +9,7 @@ ghost use Rattle.image.specs.View.{loaded_of};
 use attributes::read_attributes;
 use nodes::read_nodes;
 use permissions::read_permissions;
-use tables::{Dossier, no_attributes, no_nodes, no_permissions};
+use tables::Dossier;
 
 pub mod attributes;
 pub mod columns;
@@ -17,12 +17,10 @@ pub mod nodes;
 pub mod permissions;
 pub mod records;
 
-// A dossier, or the record that is bad: 0 for a bad length. The dossier of a bad image has no rows.
+// A record that is bad, counted from 1; 0 for a bad length.
 #[derive(Clone, Copy)]
-pub struct Loaded {
-    pub good: bool,
-    pub record: usize,
-    pub dossier: Dossier,
+pub struct BadRecord {
+    pub number: usize,
 }
 
 // 0, not a multiple of 40, or above 17,920.
@@ -32,52 +30,22 @@ fn is_bad_length(n: usize) -> bool
     (n == 0) | ((n % 40 != 0) | (17920 < n))
 }
 
-// The record that is bad, and no rows.
-pub fn refused(number: usize) -> Loaded
-    ensures { result ≡ loaded_of (images.bad number) }
-{
-    let none = Dossier {
-        nodes: no_nodes(),
-        attributes: no_attributes(),
-        permissions: no_permissions(),
-    };
-    Loaded {
-        good: false,
-        record: number,
-        dossier: none,
-    }
-}
-
-pub fn load(image: &[u8]) -> Loaded
+pub fn load(image: &[u8]) -> Result<Dossier, BadRecord>
     ensures { result ≡ loaded_of (images.load image.now) }
 {
     let size = image.len();
     if is_bad_length(size) {
-        return refused(0);
+        return Err(BadRecord { number: 0 });
     }
     let n = size / 40;
-    let a = read_nodes(image, n);
-    if !a.ok {
-        return refused(a.next + 1);
-    }
+    let a = read_nodes(image, n)?;
     let nodes = a.table;
-    let b = read_attributes(image, a.next, n, nodes);
-    if !b.ok {
-        return refused(b.next + 1);
-    }
+    let b = read_attributes(image, a.next, n, nodes)?;
     let attributes = b.table;
-    let c = read_permissions(image, b.next, n, nodes, attributes);
-    if !c.ok {
-        return refused(c.next + 1);
-    }
-    let permissions = c.table;
-    Loaded {
-        good: true,
-        record: 0,
-        dossier: Dossier {
-            nodes,
-            attributes,
-            permissions,
-        },
-    }
+    let permissions = read_permissions(image, b.next, n, nodes, attributes)?;
+    Ok(Dossier {
+        nodes,
+        attributes,
+        permissions,
+    })
 }

@@ -1,23 +1,23 @@
 // The nodes of an image.
-ghost use Rattle.std.specs.Prelude.{◌≡◌, ◌*◌, ◌≤◌, ◌<◌, ltb, length, take};
-ghost use Rattle.laws.specs.Slots.{pick};
+ghost use Rattle.std.specs.Prelude.{◌≡◌, ◌*◌, ◌≤◌, ◌<◌, ltb, length, take, MatchResult};
 ghost use Rattle.path.specs.Address.{last};
 ghost use Rattle.path.specs.Packed.{number};
 ghost use Rattle.path.specs.View.{steps, path_of, PathSound};
 ghost use Rattle.model.specs.Image as images;
-ghost use Rattle.image.specs.Records.{Breaks};
+ghost use Rattle.image.specs.Records.{Blames};
 ghost use Rattle.image.specs.Rows.{NodesDone};
 ghost use Rattle.image.specs.Columns.{Rises, NoneAbove, among, node_fits_among};
 
+use crate::BadRecord;
 use crate::columns::is_among;
 use crate::records::record_after;
+use parse::Record;
 use path::{Path, child_of, key, last_step, parent_of, size};
-use tables::{Node, Nodes, no_nodes};
+use tables::{Nodes, no_nodes};
 
-// ok: `next` records are good nodes and the table holds them; record `next` is no node, or there is none. Else record `next` is bad. Counted from 0.
+// The first `next` records are good nodes and the table holds them; record `next`, counted from 0, is no node, or there is none.
 #[derive(Clone, Copy)]
 pub struct NodesRead {
-    pub ok: bool,
     pub next: usize,
     pub table: Nodes,
 }
@@ -67,43 +67,23 @@ fn node_fits(keys: &[u64], n: usize, p: Path) -> bool
     is_among(keys, n, key(left_of(p)))
 }
 
-pub fn read_nodes(image: &[u8], n: usize) -> NodesRead
+pub fn read_nodes(image: &[u8], n: usize) -> Result<NodesRead, BadRecord>
     requires { length image.now ≡ n * 40 }
-    ensures { pick result.ok (NodesDone image.now n result.next result.table) (Breaks image.now n result.next) }
+    ensures { MatchResult result (λ a. NodesDone image.now n a.next a.table) (λ e. Blames image.now n e.number) }
 {
     let mut t = no_nodes();
     let mut keys: [u64; 64] = [0; 64];
-    let mut k: usize = 0;
-    while k < n {
-        let r = record_after(image, k);
-        let p = r.path;
-        if r.kind != 1 {
-            return NodesRead {
-                ok: true,
-                next: k,
-                table: t,
-            };
-        }
-        let c = t.count;
-        if !node_fits(&keys, c, p) {
-            return NodesRead {
-                ok: false,
-                next: k,
-                table: t,
-            };
-        }
-        keys[c] = key(p);
-        t.rows[c] = Node {
-            path: p,
-            owner: r.owner,
-            unused: [0; 7],
+    for k in 0..n {
+        let Some(Record::Node(node)) = record_after(image, k) else {
+            return Ok(NodesRead { next: k, table: t });
         };
+        let c = t.count;
+        if !node_fits(&keys, c, node.path) {
+            return Err(BadRecord { number: k + 1 });
+        }
+        keys[c] = key(node.path);
+        t.rows[c] = node;
         t.count = c + 1;
-        k += 1;
     }
-    NodesRead {
-        ok: true,
-        next: k,
-        table: t,
-    }
+    Ok(NodesRead { next: n, table: t })
 }

@@ -1,25 +1,18 @@
 // The permissions of an image, and its end.
-ghost use Rattle.std.specs.Prelude.{◌≡◌, ◌*◌, ◌≤◌, eqb, ltb, length, take};
+ghost use Rattle.std.specs.Prelude.{◌≡◌, ◌*◌, ◌≤◌, eqb, ltb, length, take, MatchResult};
 ghost use Rattle.laws.specs.Slots.{pick};
 ghost use Rattle.path.specs.View.{key_of};
-ghost use Rattle.image.specs.Records.{Breaks};
-ghost use Rattle.image.specs.Rows.{permission_from, AttributesDone, PermissionsUpto};
+ghost use Rattle.image.specs.Records.{Blames};
+ghost use Rattle.image.specs.Rows.{AttributesDone, PermissionsUpto};
 ghost use Rattle.image.specs.Columns.{Rises, among, beside, before_pair, pair_among};
 
+use crate::BadRecord;
 use crate::columns::{is_among, is_object_among, keys_of, objects_of};
 use crate::records::record_after;
 use grants::clash;
 use parse::Record;
 use path::{Path, is_same, key};
-use tables::{Attributes, Nodes, Permission, Permissions, no_permissions};
-
-// ok: all records are good and the table holds the permissions. Else record `next` is bad. Counted from 0.
-#[derive(Clone, Copy)]
-pub struct PermissionsRead {
-    pub ok: bool,
-    pub next: usize,
-    pub table: Permissions,
-}
+use tables::{Attributes, Nodes, Permissions, no_permissions};
 
 // Whether the object is there: the node for name 0, by the first m keys, else the attribute, by the first h of the other two columns.
 fn object_there<'a>(
@@ -42,18 +35,6 @@ fn object_there<'a>(
     is_object_among(tops, names, h, k, name)
 }
 
-fn permission_of(r: Record) -> Permission
-    ensures { result ≡ permission_from r }
-{
-    let path = r.path;
-    let grant = r.grant;
-    Permission {
-        path,
-        name: r.name,
-        grant,
-    }
-}
-
 // The object's permissions are the last rows: records ascend. The walk back ends at the first row of another object.
 pub fn read_permissions(
     image: &[u8],
@@ -61,16 +42,17 @@ pub fn read_permissions(
     n: usize,
     nodes: Nodes,
     attributes: Attributes,
-) -> PermissionsRead
+) -> Result<Permissions, BadRecord>
     requires { (length image.now ≡ n * 40) × AttributesDone image.now n from nodes attributes }
-    ensures { pick result.ok (PermissionsUpto image.now n n nodes attributes result.table) (Breaks image.now n result.next) }
+    ensures { MatchResult result (λ t. PermissionsUpto image.now n n nodes attributes t) (λ e. Blames image.now n e.number) }
 {
     let keys = keys_of(nodes);
     let objects = objects_of(attributes);
     let mut t = no_permissions();
-    let mut k = from;
-    while k < n {
-        let r = record_after(image, k);
+    for k in from..n {
+        let Some(Record::Permission(r)) = record_after(image, k) else {
+            return Err(BadRecord { number: k + 1 });
+        };
         let c = t.count;
         let m = nodes.count;
         let h = attributes.count;
@@ -87,20 +69,11 @@ pub fn read_permissions(
                 j = 0;
             }
         }
-        if (r.kind != 3) | ((128 <= c) | (!on | clashing)) {
-            return PermissionsRead {
-                ok: false,
-                next: k,
-                table: t,
-            };
+        if (128 <= c) | (!on | clashing) {
+            return Err(BadRecord { number: k + 1 });
         }
-        t.rows[c] = permission_of(r);
+        t.rows[c] = r;
         t.count = c + 1;
-        k += 1;
     }
-    PermissionsRead {
-        ok: true,
-        next: k,
-        table: t,
-    }
+    Ok(t)
 }

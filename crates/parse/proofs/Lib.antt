@@ -1,7 +1,7 @@
 pub mod Digits
-pub mod Zeros
 pub mod Readings
 pub mod Frame
 pub mod Values
 pub mod Cases
 pub mod Views
+pub mod Zeros

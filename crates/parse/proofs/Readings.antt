@@ -4,7 +4,7 @@ use mathlib.Core.Bool.{Bool, true, false, not}
 use mathlib.Core.Option.{none, some}
 use Prim.Native.Nat.{ℕ, ◌≤◌, ◌<◌, ◌%◌}
 use lib.Dec.{T}
-use lib.Ieee.{Float, nan, inf, fin, lt, is_nan, nan_bits, of_bits, binary32}
+use lib.Ieee.{Float, nan, inf, fin, is_nan, nan_bits, of_bits, binary32}
 use lib.Ieee.Bits.{nan_bits_is, nan_bits_above}
 use borrow.Author.Tests.{lt-ltb, le-ltb, ne_eqb}
 use Rattle.laws.specs.Slots.{pick}
@@ -12,20 +12,6 @@ use Rattle.path.proofs.Structs.{no}
 use Rattle.model.specs.Things.{reading}
 use Rattle.model.specs.Refusals.{finite}
 use Rattle.parse.specs.Fields.{value_from}
-
--- ---- between the infinities
-pub between : (x : Float) → lt x (inf false) ≡ true → lt (inf true) x ≡ finite x
-unfolding lt
-between nan h = refl
-between (inf true) h = refl
-between (inf false) h = no (sym h)
-between (fin s m e) h = refl
-
-pub beyond : (x : Float) → lt x (inf false) ≡ false → false ≡ finite x
-unfolding lt
-beyond nan h = refl
-beyond (inf s) h = refl
-beyond (fin s m e) h = sym h
 
 -- ---- NaN
 pub finite_number : (x : Float) → T (finite x) → T (not (is_nan x))

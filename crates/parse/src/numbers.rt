@@ -9,49 +9,42 @@ pub fn read2(s: &[u8], at: usize) -> u16
     requires { at + 2 ≤ length s.now }
     ensures { result ≡ number2 at s.now }
 {
-    let a = s[at] as u16;
-    let b = s[at + 1] as u16;
-    a * 256 + b
+    u16::from_be_bytes([s[at], s[at + 1]])
 }
 
 pub fn read4(s: &[u8], at: usize) -> u32
     requires { at + 4 ≤ length s.now }
     ensures { result ≡ number4 at s.now }
 {
-    let a = read2(s, at) as u32;
-    let b = read2(s, at + 2) as u32;
-    a * 65536 + b
+    u32::from_be_bytes([s[at], s[at + 1], s[at + 2], s[at + 3]])
 }
 
 pub fn read8(s: &[u8], at: usize) -> u64
     requires { at + 8 ≤ length s.now }
     ensures { result ≡ number8 at s.now }
 {
-    let a = read4(s, at) as u64;
-    let b = read4(s, at + 4) as u64;
-    a * 4294967296 + b
+    u64::from_be_bytes([
+        s[at],
+        s[at + 1],
+        s[at + 2],
+        s[at + 3],
+        s[at + 4],
+        s[at + 5],
+        s[at + 6],
+        s[at + 7],
+    ])
 }
 
 // The time that 64 bits stand for: those from 2^63 on are below 0.
 pub fn time_of(n: u64) -> i64
     ensures { result ≡ to_z w64 n }
 {
-    if n < 0x8000_0000_0000_0000 {
-        return n as i64;
-    }
-    let m = !n;
-    let k = m as i64;
-    !k
+    n.cast_signed()
 }
 
-// No NaN and no infinity: it lies between the infinities.
+// No NaN and no infinity.
 pub fn is_finite(x: f32) -> bool
     ensures { result ≡ finite x }
 {
-    let top = f32::from_bits(0x7f80_0000);
-    let bottom = f32::from_bits(0xff80_0000);
-    if x < top {
-        return bottom < x;
-    }
-    false
+    x.is_finite()
 }

@@ -3,15 +3,17 @@ use mathlib.Core.Path.{◌≡◌, refl, sym, ap, subst, ◌∙◌}
 use mathlib.Core.Bool.{Bool}
 use mathlib.Core.List.Memᴰ
 use mathlib.Core.List.{List, [], ◌∷◌, ◌++◌, map, map-map, append_assoc}
-use Prim.Native.Nat.{ℕ, ◌+◌, ◌*◌, ◌≤◌, ◌<◌}
+use Prim.Native.Nat.{ℕ, ◌+◌, ◌-◌, ◌*◌, ◌≤◌, ◌<◌}
 use native.Mathlib.Nat.{zero-add}
 use native.Mathlib.Omega.{arith}
 use borrow.Author.Tests.{lt-ltb, le-ltb}
 use lib.Dec.{T, ltb}
-use lib.ListN.{length, length-append, length-map}
-use Rattle.laws.specs.Slots.{pick, put, All}
+use lib.ListN.{length, take, replicate, length-append, length-map}
+use Rattle.std.proofs.Common.{Some, None}
+use Rattle.std.proofs.lemmas.List.{take_at}
+use Rattle.laws.specs.Slots.{pick, put, All, Is}
 use Rattle.laws.specs.Sorted.{nil, cons}
-use Rattle.laws.proofs.Fill.{held_room, is_fits}
+use Rattle.laws.proofs.Fill.{Held, held_room, is_fits}
 use Rattle.laws.proofs.Order.{nat_order, lex2_right}
 use Rattle.laws.proofs.Put.{then}
 use Rattle.laws.proofs.Sorted.{map_sorted}
@@ -28,21 +30,20 @@ use Rattle.tables.specs.View.{TablesFit, DossierFits, view_dossier, dossier_of, 
 use Rattle.tables.proofs.Rows.{nodes_held, attributes_held, permissions_held, view_dossier_lem, view_clipboard_lem}
 use Rattle.tables.proofs.Parts.{sound_fits, nodes_sound, attributes_sound, permissions_sound}
 use Rattle.tables.proofs.Tables.{nodes_count, attributes_count, permissions_count}
-use Rattle.save.specs.declared.Written.TheVariants.{Short, Bytes}
 use Rattle.save.specs.Saved.{written_of, left_in}
 use Rattle.save.proofs.Rows.{bytes_append, rows_length, node_forty, attribute_forty, permission_forty}
 
 -- ---- all or nothing
-pub too_short : (bytes buffer : List ℕ) → length buffer < length bytes → (Short ≡ written_of bytes buffer) × (buffer ≡ left_in bytes buffer)
+pub too_short : (bytes buffer : List ℕ) → length buffer < length bytes → (None ≡ written_of bytes buffer) × (buffer ≡ left_in bytes buffer)
 too_short bytes buffer h =
     let e = sym (lt-ltb (length buffer) (length bytes) h) in
-    (ap (λ (t : Bool). pick t Short (Bytes (length bytes))) e, ap (λ (t : Bool). pick t buffer (written bytes buffer)) e)
+    (ap (λ (t : Bool). pick t None (Some (length bytes))) e, ap (λ (t : Bool). pick t buffer (written bytes buffer)) e)
 
 pub all_written : (bytes buffer : List ℕ) {n : ℕ} {out : List ℕ} → n ≡ length bytes → n ≤ length buffer → out ≡ put buffer 0 bytes
-    → (Bytes n ≡ written_of bytes buffer) × (out ≡ left_in bytes buffer)
+    → (Some n ≡ written_of bytes buffer) × (out ≡ left_in bytes buffer)
 all_written bytes buffer {n} {out} s h o =
     let e = sym (le-ltb (length buffer) (length bytes) (omega arith)) in
-    (ap Bytes s ∙ ap (λ (t : Bool). pick t Short (Bytes (length bytes))) e, (o ∙ simp zero-add) ∙ ap (λ (t : Bool). pick t buffer (written bytes buffer)) e)
+    (ap Some s ∙ ap (λ (t : Bool). pick t None (Some (length bytes))) e, (o ∙ simp zero-add) ∙ ap (λ (t : Bool). pick t buffer (written bytes buffer)) e)
 
 -- ---- the tables one behind the other
 module _ (d : things.Dossier) where
@@ -94,6 +95,18 @@ module _ (d : things.Dossier) where
         (then buffer o m 0 node_bytes attribute_bytes eo (em ∙ ap (λ (k : ℕ). put o k attribute_bytes) ki) (omega arith))
         (eout ∙ ap (λ (k : ℕ). put m k permission_bytes) kj) (omega arith)
         ∙ ap (put buffer 0) (sym save_parts)
+
+-- ---- the rows that a table holds
+module _ {S M : Type 0} (of : M → S) (P : M → Type 0) where
+  all_is : (l : List M) → All P l → All (Is of P) (map of l)
+  all_is [] h = tt
+  all_is (x ∷ l) h = (record { model = x; same = refl; fits = h.0 }, all_is l h.1)
+
+  pub held_all : (n : ℕ) (b : S) (rows : List S) (count : ℕ) → Held of P n b rows count → All (Is of P) (take count rows)
+  held_all n b rows count h =
+      let m = map of h.model in
+      let e : take count rows ≡ m = ap (take count) h.rows_are ∙ take_at m (replicate (n - length m) b) count (length-map h.model of ∙ sym h.count_is) in
+      subst (All (Is of P)) (sym e) (all_is h.model h.fits)
 
 -- ---- the same of a dossier in arrays, by its counts
 -- how many bytes it needs: no more than all tables full

@@ -2,90 +2,106 @@
 #![tactic(auto)]
 
 ghost use Rattle.std.specs.Prelude.{◌≡◌, map, ◌+◌, ◌*◌, ◌≤◌, length};
-ghost use Rattle.laws.specs.Slots.{put};
+ghost use Rattle.laws.specs.Slots.{put, All};
 ghost use Rattle.model.specs.Image as images;
 ghost use Rattle.model.specs.Image.{node_record, attribute_record, permission_record, bytes_of};
-ghost use Rattle.tables.specs.View.{view_nodes, view_attributes, view_permissions, view_dossier, view_clipboard, NodesSound, AttributesSound, PermissionsSound, DossierFits, ClipboardSound};
+ghost use Rattle.tables.specs.View.{view_node, view_attribute, view_permission, view_dossier, view_clipboard, NodeSound, AttributeSound, PermissionSound, DossierFits, ClipboardSound};
+ghost use Rattle.save.specs.Forty.{node_forty, attribute_forty, permission_forty};
 ghost use Rattle.save.specs.Saved.{written_of, left_in};
 
 use encode::{put_attribute, put_node, put_permission};
-use tables::{Attributes, Clipboard, Dossier, Nodes, Permissions};
+use tables::{Attribute, Clipboard, Dossier, Node, Permission};
 
-fn put_nodes(t: Nodes, out: &mut [u8], at: usize)
-    requires { NodesSound t × (at + 40 * t.count ≤ length out.old) }
-    ensures { out.new ≡ put out.old at (bytes_of (map node_record (view_nodes t))) }
-{
-    let n = t.count;
-    let mut k = at;
-    let mut i: usize = 0;
-    while i < n {
-        put_node(out, k, t.rows[i]);
-        k += 40;
-        i += 1;
+// A row of a table, which is saved as one record.
+trait Row: Copy {
+    ghost is_sound: { Self → Type 0 };
+
+    ghost as_record: { Self → images.Record };
+
+    fn put(self, out: &mut [u8], at: usize)
+        requires { is_sound self × (at + 40 ≤ length out.old) }
+        ensures { out.new ≡ put out.old at (images.encode (as_record self)) };
+
+    ghost forty: { (x : Self) → is_sound x → length (images.encode (as_record x)) ≡ 40 };
+}
+
+impl Row for Node {
+    ghost is_sound = { NodeSound };
+
+    ghost as_record = { λ a. node_record (view_node a) };
+
+    ghost forty = { node_forty };
+
+    fn put(self, out: &mut [u8], at: usize) {
+        put_node(out, at, self);
     }
 }
 
-fn put_attributes(t: Attributes, out: &mut [u8], at: usize)
-    requires { AttributesSound t × (at + 40 * t.count ≤ length out.old) }
-    ensures { out.new ≡ put out.old at (bytes_of (map attribute_record (view_attributes t))) }
-{
-    let n = t.count;
-    let mut k = at;
-    let mut i: usize = 0;
-    while i < n {
-        put_attribute(out, k, t.rows[i]);
-        k += 40;
-        i += 1;
+impl Row for Attribute {
+    ghost is_sound = { AttributeSound };
+
+    ghost as_record = { λ a. attribute_record (view_attribute a) };
+
+    ghost forty = { attribute_forty };
+
+    fn put(self, out: &mut [u8], at: usize) {
+        put_attribute(out, at, self);
     }
 }
 
-fn put_permissions(t: Permissions, out: &mut [u8], at: usize)
-    requires { PermissionsSound t × (at + 40 * t.count ≤ length out.old) }
-    ensures { out.new ≡ put out.old at (bytes_of (map permission_record (view_permissions t))) }
+impl Row for Permission {
+    ghost is_sound = { PermissionSound };
+
+    ghost as_record = { λ a. permission_record (view_permission a) };
+
+    ghost forty = { permission_forty };
+
+    fn put(self, out: &mut [u8], at: usize) {
+        put_permission(out, at, self);
+    }
+}
+
+// Rows, a record behind the other, from at on.
+fn put_rows<R: Row>(rows: &[R], out: &mut [u8], at: usize)
+    requires each { All R.is_sound rows.now }
+    requires room { at + 40 * length rows.now ≤ length out.old }
+    ensures { out.new ≡ put out.old at (bytes_of (map R.as_record rows.now)) }
 {
-    let n = t.count;
     let mut k = at;
-    let mut i: usize = 0;
-    while i < n {
-        put_permission(out, k, t.rows[i]);
+    for row in rows {
+        row.put(out, k);
         k += 40;
-        i += 1;
     }
 }
 
 // ---- all or nothing
 
-#[derive(Clone, Copy)]
-pub enum Written {
-    Short,
-    Bytes(usize),
-}
-
-// Saves the dossier, a record for each row; a buffer that is too short for all of them stays as it is.
-pub fn save(d: Dossier, out: &mut [u8]) -> Written
+// Saves the dossier, a record for each row, and says how many bytes that are. A buffer that is too short for all of them stays as it is.
+pub fn save(d: Dossier, out: &mut [u8]) -> Option<usize>
     requires { DossierFits d }
     ensures { (result ≡ written_of (images.save (view_dossier d)) out.old) × (out.new ≡ left_in (images.save (view_dossier d)) out.old) }
 {
-    let nodes = d.nodes;
-    let attributes = d.attributes;
-    let permissions = d.permissions;
+    let Dossier {
+        nodes,
+        attributes,
+        permissions,
+    } = d;
     let past_nodes = 40 * nodes.count;
     let past_attributes = past_nodes + 40 * attributes.count;
     let need = past_attributes + 40 * permissions.count;
     if out.len() < need {
-        return Written::Short;
+        return None;
     }
-    put_nodes(nodes, out, 0);
-    put_attributes(attributes, out, past_nodes);
-    put_permissions(permissions, out, past_attributes);
-    Written::Bytes(need)
+    put_rows(&nodes.rows[..nodes.count], out, 0);
+    put_rows(&attributes.rows[..attributes.count], out, past_nodes);
+    put_rows(&permissions.rows[..permissions.count], out, past_attributes);
+    Some(need)
 }
 
 // Saves what is on the clipboard: a cached attribute is held as its rows, and no rows are no bytes.
-pub fn save_clipboard(c: Clipboard, out: &mut [u8]) -> Written
+pub fn save_clipboard(c: Clipboard, out: &mut [u8]) -> Option<usize>
     requires { ClipboardSound c }
     ensures { (result ≡ written_of (images.save_clipboard (view_clipboard c)) out.old) × (out.new ≡ left_in (images.save_clipboard (view_clipboard c)) out.old) }
 {
-    let d = c.held;
-    save(d, out)
+    save(c.held, out)
 }

@@ -5,6 +5,7 @@ use mathlib.Core.Option.{none, some}
 use mathlib.Core.List.{List, [], ◌∷◌}
 use Prim.Native.Nat.{ℕ}
 use lib.Dec.{eqb}
+use Rattle.std.proofs.Common.{Result, Ok, Err}
 use Rattle.path.proofs.Structs.{no}
 use Rattle.model.specs.Things as things
 use Rattle.model.specs.Things.{State}
@@ -15,6 +16,7 @@ use Rattle.model.specs.Run as run
 use Rattle.model.specs.Run.{Reply, step, reply, dossier_good}
 use Rattle.tables.specs.declared.Dossier.{Dossier}
 use Rattle.tables.specs.View.{dossier_of, DossierSound}
+use Rattle.image.specs.declared.BadRecord as image
 use Rattle.image.specs.View.{loaded_of}
 use Rattle.state.specs.declared.DossiersOut.{DossiersOut}
 use Rattle.state.specs.declared.Outcome.TheVariants.{Done, Refused, BadRecord}
@@ -24,18 +26,30 @@ use Rattle.state.proofs.Sessions.{dossier_same}
 use Rattle.unguarded.proofs.Renewing.{with_new}
 
 -- ---- what the loader found
-pub found_bad : (m : Loaded things.Dossier) → (loaded_of m).good ≡ false → m ≡ bad (loaded_of m).«record»
-found_bad (bad k) e = refl
-found_bad (good d) e = no e
+abbrev dossier_in : Dossier → Result Dossier image.BadRecord → Dossier
+dossier_in d (Ok x) = x
+dossier_in d (Err k) = d
 
-pub record Good (m : Loaded things.Dossier) : Type 0 where
+abbrev number_in : Result Dossier image.BadRecord → ℕ
+number_in (Ok x) = 0
+number_in (Err k) = k.number
+
+abbrev is_good : Result Dossier image.BadRecord → Bool
+is_good (Ok x) = true
+is_good (Err k) = false
+
+pub found_bad : {r : image.BadRecord} (m : Loaded things.Dossier) → Err r ≡ loaded_of m → m ≡ bad r.number
+found_bad (bad k) e = ap bad (sym (ap number_in e))
+found_bad (good d) e = no (sym (ap is_good e))
+
+pub record Good (x : Dossier) (m : Loaded things.Dossier) : Type 0 where
   pub dossier : things.Dossier
   pub is : m ≡ good dossier
-  pub same : (loaded_of m).dossier ≡ dossier_of dossier
+  pub same : x ≡ dossier_of dossier
 
-pub found_good : (m : Loaded things.Dossier) → (loaded_of m).good ≡ true → Good m
-found_good (bad k) e = no (sym e)
-found_good (good d) e = record { dossier = d; is = refl; same = refl }
+pub found_good : {x : Dossier} (m : Loaded things.Dossier) → Ok x ≡ loaded_of m → Good x m
+found_good (bad k) e = no (ap is_good e)
+found_good {x} (good d) e = record { dossier = d; is = refl; same = ap (dossier_in x) e }
 
 -- ---- what is left, by whether the number is one and what was found
 unfoldable by : Dossier → Dossier → ℕ → List ℕ → Bool → Loaded things.Dossier → DossiersOut

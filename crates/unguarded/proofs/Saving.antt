@@ -4,6 +4,7 @@ use mathlib.Core.Bool.{Bool, true, false, not}
 use mathlib.Core.List.{List, [], ◌∷◌}
 use Prim.Native.Nat.{ℕ}
 use lib.ListN.{length}
+use Rattle.std.proofs.Common.{Option, Some, None}
 use Rattle.laws.specs.Slots.{pick}
 use Rattle.model.specs.Things as things
 use Rattle.model.specs.Things.{State}
@@ -13,8 +14,6 @@ use Rattle.model.specs.Run as run
 use Rattle.model.specs.Run.{Reply, step, dossier, dossier_good, short, writes}
 use Rattle.tables.specs.declared.Clipboard.{Clipboard}
 use Rattle.tables.specs.View.{view_clipboard}
-use Rattle.save.specs.declared.Written.{Written}
-use Rattle.save.specs.declared.Written.TheVariants.{Short, Bytes}
 use Rattle.save.specs.Saved.{written_of, left_in}
 use Rattle.state.specs.declared.Outcome.TheVariants.{Refused}
 use Rattle.state.specs.View.{plain_of, answer_of}
@@ -22,7 +21,7 @@ use Rattle.state.specs.Calls.{answer_in, buffer_in, only_buffer, having_clipboar
 use Rattle.unguarded.specs.Calls.{answer_for}
 
 -- ---- by whether the buffer is too short
-answer_of_lem : (s : State) (bytes buffer : List ℕ) (tight : Bool) → answer_for (pick tight Short (Bytes (length bytes))) ≡ answer_of (writes (first_that ((9, tight) ∷ [])) s s bytes buffer).1.answer
+answer_of_lem : (s : State) (bytes buffer : List ℕ) (tight : Bool) → answer_for (pick tight None (Some (length bytes))) ≡ answer_of (writes (first_that ((9, tight) ∷ [])) s s bytes buffer).1.answer
 answer_of_lem s bytes buffer true = refl
 answer_of_lem s bytes buffer false = refl
 
@@ -35,7 +34,7 @@ unfoldable by : State → Bool → things.Dossier → List ℕ → State × Repl
 by s good d buffer = writes (first_that ((1, not good) ∷ (9, short (images.save d) buffer) ∷ [])) s s (images.save d) buffer
 
 module _ (s : State) (n : ℕ) (buffer : List ℕ) where
-  pub save_done : {d : things.Dossier} → dossier_good n ≡ true → d ≡ dossier n s → {w : Written} → w ≡ written_of (images.save d) buffer
+  pub save_done : {d : things.Dossier} → dossier_good n ≡ true → d ≡ dossier n s → {w : Option ℕ} → w ≡ written_of (images.save d) buffer
       → {left : List ℕ} → left ≡ left_in (images.save d) buffer → (answer_for w ≡ answer_in s (run.save n buffer)) × (left ≡ buffer_in s (run.save n buffer))
   unfolding step by
   save_done {d} g e a l = (
@@ -48,7 +47,7 @@ module _ (s : State) (n : ℕ) (buffer : List ℕ) where
   save_refused g = (ap (λ good. answer_of (by s good (dossier n s) buffer).1.answer) (sym g), ap (λ good. only_buffer (by s good (dossier n s) buffer).1.lent) (sym g))
 
 -- ---- the clipboard
-pub clipboard_done : (c : Clipboard) (buffer : List ℕ) {w : Written} → w ≡ written_of (images.save_clipboard (view_clipboard c)) buffer
+pub clipboard_done : (c : Clipboard) (buffer : List ℕ) {w : Option ℕ} → w ≡ written_of (images.save_clipboard (view_clipboard c)) buffer
     → {left : List ℕ} → left ≡ left_in (images.save_clipboard (view_clipboard c)) buffer
     → (answer_for w ≡ answer_in (having_clipboard c) (run.save_clipboard buffer)) × (left ≡ buffer_in (having_clipboard c) (run.save_clipboard buffer))
 unfolding step

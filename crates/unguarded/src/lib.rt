@@ -12,7 +12,7 @@ ghost use Rattle.unguarded.specs.Calls.{answer_for};
 
 use edits::{bare, empty_clipboard};
 use image::load;
-use save::{Written, save, save_clipboard};
+use save::{save, save_clipboard};
 use state::entries::no_entries;
 use state::{Agreements, Answer, DossiersOut, Outcome, Session, plain};
 use tables::{Clipboard, Dossier};
@@ -70,15 +70,16 @@ pub fn loaded(one: Dossier, two: Dossier, n: u8, image: &[u8]) -> DossiersOut
     if 2 < n {
         return refused(one, two, 1);
     }
-    let l = load(image);
-    if !l.good {
-        return DossiersOut {
-            one: one,
-            two: two,
-            answer: plain(Outcome::BadRecord(l.record)),
-        };
-    }
-    let d = l.dossier;
+    let d = match load(image) {
+        Ok(d) => d,
+        Err(bad) => {
+            return DossiersOut {
+                one: one,
+                two: two,
+                answer: plain(Outcome::BadRecord(bad.number)),
+            };
+        }
+    };
     if n == 1 {
         return DossiersOut {
             one: d,
@@ -118,12 +119,12 @@ pub fn clipboard_saved(c: Clipboard, out: &mut [u8]) -> Answer
 // ---- answers
 
 // How many bytes were written, or 9.
-fn written(w: Written) -> Answer
+fn written(w: Option<usize>) -> Answer
     ensures { result ≡ answer_for w }
 {
     match w {
-        Written::Short => plain(Outcome::Refused(9)),
-        Written::Bytes(n) => plain(Outcome::Wrote(n)),
+        None => plain(Outcome::Refused(9)),
+        Some(n) => plain(Outcome::Wrote(n)),
     }
 }
 

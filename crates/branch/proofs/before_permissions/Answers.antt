@@ -1,5 +1,4 @@
 -- `branch::before_permissions` meets its contract. The loop's invariant: no record before k is a permission. Assumes nothing.
-use borrow.Author.Rules.{rules}
 use mathlib.Core.Path.{sym}
 use Prim.Native.Nat.{◌/◌}
 use lib.ListN.{length}
@@ -9,9 +8,9 @@ use Rattle.branch.proofs.before_permissions.Goals as goal
 pub returns-then-image-k-eq3 : goal.returns-then-image-k-eq3
 returns-then-image-k-eq3 c =
     let b = c.args.image.now in
-    sym (before_stop b (length b / 40) c.loop-k.k c.loop-k.invariant.1 c.loop-k-test.true c.if-image-k-eq3.true)
+    sym (before_stop b (length b / 40) c.loop-k.k c.loop-k.invariant c.loop-k-test.true c.if-image-k-eq3.true)
 
 pub loop-k-preserved : goal.loop-k-preserved
 loop-k-preserved c =
     let b = c.args.image.now in
-    (search rules, before_more b (length b / 40) c.loop-k.k c.loop-k.invariant.1 c.loop-k-test.true c.if-image-k-eq3.false)
+    before_more b (length b / 40) c.loop-k.k c.loop-k.invariant c.loop-k-test.true c.if-image-k-eq3.false

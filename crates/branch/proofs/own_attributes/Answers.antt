@@ -12,15 +12,14 @@ use Rattle.branch.proofs.own_attributes.Goals as goal
 pub loop-i-init : goal.loop-i-init
 loop-i-init c =
     let h = attributes_held c.args.t c.requires in
-    (search rules, held_room _ _ _ _ _ _ h, search rules, changes attributes_with attribute_of 256 blank_attribute view_attribute _ h)
+    (held_room _ _ _ _ _ _ h, search rules, changes attributes_with attribute_of 256 blank_attribute view_attribute _ h)
 
 pub loop-i-preserved : goal.loop-i-preserved
 loop-i-preserved c =
     let l = c.loop-i in (
       search rules,
       search rules,
-      search rules,
-      change attributes_with attribute_of 256 blank_attribute view_attribute (owned_attribute c.args.owner) (attributes_held c.args.t c.requires) l.invariant.3 view_attribute_lem
+      change attributes_with attribute_of 256 blank_attribute view_attribute (owned_attribute c.args.owner) (attributes_held c.args.t c.requires) l.invariant.2 view_attribute_lem
           (λ a. record { path = a.path; name = a.name; owner = c.args.owner; value = a.value }) (λ m. refl) no_attribute c.loop-i-test.true,
     )
 
@@ -29,5 +28,5 @@ unfolding attributes_of
 returns c =
     let l = c.loop-i in
     let e : l.i ≡ c.args.t.count = omega arith in
-    ap (attributes_with l.out.rows) (l.invariant.2 ∙ sym e)
-    ∙ changed attributes_with attribute_of 256 blank_attribute view_attribute (owned_attribute c.args.owner) (attributes_held c.args.t c.requires) l.invariant.3 e
+    ap (attributes_with l.attributes.rows) (l.invariant.1 ∙ sym e)
+    ∙ changed attributes_with attribute_of 256 blank_attribute view_attribute (owned_attribute c.args.owner) (attributes_held c.args.t c.requires) l.invariant.2 e

@@ -12,15 +12,14 @@ use Rattle.branch.proofs.own_nodes.Goals as goal
 pub loop-i-init : goal.loop-i-init
 loop-i-init c =
     let h = nodes_held c.args.t c.requires in
-    (search rules, held_room _ _ _ _ _ _ h, search rules, changes nodes_with node_of 64 blank_node view_node _ h)
+    (held_room _ _ _ _ _ _ h, search rules, changes nodes_with node_of 64 blank_node view_node _ h)
 
 pub loop-i-preserved : goal.loop-i-preserved
 loop-i-preserved c =
     let l = c.loop-i in (
       search rules,
       search rules,
-      search rules,
-      change nodes_with node_of 64 blank_node view_node (owned_node c.args.owner) (nodes_held c.args.t c.requires) l.invariant.3 view_node_lem
+      change nodes_with node_of 64 blank_node view_node (owned_node c.args.owner) (nodes_held c.args.t c.requires) l.invariant.2 view_node_lem
           (λ a. record { path = a.path; owner = c.args.owner; unused = a.unused }) (λ m. refl) no_node c.loop-i-test.true,
     )
 
@@ -29,5 +28,5 @@ unfolding nodes_of
 returns c =
     let l = c.loop-i in
     let e : l.i ≡ c.args.t.count = omega arith in
-    ap (nodes_with l.out.rows) (l.invariant.2 ∙ sym e)
-    ∙ changed nodes_with node_of 64 blank_node view_node (owned_node c.args.owner) (nodes_held c.args.t c.requires) l.invariant.3 e
+    ap (nodes_with l.nodes.rows) (l.invariant.1 ∙ sym e)
+    ∙ changed nodes_with node_of 64 blank_node view_node (owned_node c.args.owner) (nodes_held c.args.t c.requires) l.invariant.2 e

@@ -1,6 +1,6 @@
 -- `branch::own_nodes` meets its contract: one pass in place: every row keeps its path and is the owner's. Assumes nothing.
 use mathlib.Core.Path.{◌≡◌}
-use Prim.Native.Nat.{◌≤◌, ◌-◌}
+use Prim.Native.Nat.{◌≤◌}
 use Rattle.model.specs.Image.{owned_node}
 use Rattle.tables.specs.View.{view_node, node_of, nodes_with, blank_node}
 use Rattle.branch.proofs.Changes.{Changes}
@@ -8,7 +8,4 @@ use Rattle.branch.proofs.own_nodes.Given as goal
 
 abbrev pub invariant-loop-i : goal.invariant-loop-i
 invariant-loop-i l =
-    (l.i ≤ l.n) × (l.n ≤ 64) × (l.out.count ≡ l.n) × Changes nodes_with node_of 64 blank_node view_node (owned_node l.owner) l.initial.out.rows l.initial.out.count l.out.rows l.i
-
-abbrev pub decreases-loop-i : goal.decreases-loop-i
-decreases-loop-i l = l.n - l.i
+    (l.fn.t.count ≤ 64) × (l.nodes.count ≡ l.fn.t.count) × Changes nodes_with node_of 64 blank_node view_node (owned_node l.owner) l.initial.nodes.rows l.initial.nodes.count l.nodes.rows l.i

@@ -25,7 +25,7 @@ returns c =
     let b = bytes4 (value_bits (view_value r.value)) in
     let n = front_length r.path (attribute_path c.requires.0) 2 r.name r.owner 0 0 0 (value_kind (view_value r.value)) in
     let m = length-append f b in
-    let e = c1.ensures ∙ ap (λ (k : ℕ). put l a.at (front 2 (steps r.path) r.name r.owner 0 0 0 k)) c.value_kind-kind.ensures in
+    let e = c1.ensures ∙ ap (λ (k : ℕ). put l a.at (front 2 (steps r.path) r.name r.owner 0 0 0 k)) c.value_kind.ensures in
     let g = c2.ensures ∙ ap (λ (k : ℕ). put c1.new.out (a.at + 16) (bytes4 k)) c.value_bits.ensures in
     behind l c2.new.out c3.new.out a.at (a.at + 20) (f ++ b) (replicate 20 0)
     (behind l c1.new.out c2.new.out a.at (a.at + 16) f b e g (omega arith) (omega arith)) c3.ensures (omega arith) (omega arith)

@@ -19,9 +19,10 @@ returns c =
     let c1 = c.put_path in
     let c2 = c.put2 in
     let c3 = c.put_six in
-    let path = steps a.path in
-    let n = steps_length a.path c.requires.0 in
-    let six = a.owner ∷ a.role ∷ a.action ∷ a.user ∷ a.value ∷ 0 ∷ [] in
-    front_put a.path c.requires.0 l c1.new.out c3.new.out a.at room a.kind (bytes2 a.name ++ six)
-    (then l (set l a.at a.kind) c1.new.out a.at (a.kind ∷ []) (step_bytes path) (run a.kind [] l a.at (omega arith)) c1.ensures (omega arith))
-    (λ e. behind c1.new.out c2.new.out c3.new.out (a.at + 8) (a.at + 10) (bytes2 a.name) six c2.ensures c3.ensures (omega arith) (omega arith)) refl
+    let f = a.f in
+    let path = steps f.path in
+    let n = steps_length f.path c.requires.0 in
+    let six = f.owner ∷ f.role ∷ f.action ∷ f.user ∷ f.value ∷ 0 ∷ [] in
+    front_put f.path c.requires.0 l c1.new.out c3.new.out a.at room f.kind (bytes2 f.name ++ six)
+    (then l (set l a.at f.kind) c1.new.out a.at (f.kind ∷ []) (step_bytes path) (run f.kind [] l a.at (omega arith)) c1.ensures (omega arith))
+    (λ e. behind c1.new.out c2.new.out c3.new.out (a.at + 8) (a.at + 10) (bytes2 f.name) six c2.ensures c3.ensures (omega arith) (omega arith)) refl

@@ -1,32 +1,29 @@
 -- `parse::decoded` meets its contract: by path and kind. Assumes nothing.
 use mathlib.Core.Path.{◌∙◌}
-use native.Mathlib.Omega.{arith}
 use borrow.Author.Tests.{not-true, not-false}
 use Rattle.parse.proofs.Views.{node_view, attribute_view, permission_view, bad_view, pathless_view}
 use Rattle.parse.proofs.decoded.Goals as goal
 
 pub returns-then-not-at : goal.returns-then-not-at
 returns-then-not-at c =
-    c.no_record.ensures
-    ∙ pathless_view c.args.b.now c.requires (λ i. omega (arith, c.type_inv.b i)) c.path_at-at.result c.path_at-at.ensures (not-true _ c.if-not-at.true)
+    pathless_view c.args.b.now c.told-b c.fits-b c.path_at-at.result c.path_at-at.ensures (not-true _ c.if-not-at.true)
 
 pub returns-in-1 : goal.returns-in-1
 returns-in-1 c =
-    c.node.ensures
-    ∙ node_view c.args.b.now c.requires (λ i. omega (arith, c.type_inv.b i)) c.path_at-at.result c.path_at-at.ensures (not-false _ c.if-not-at.false) c.in-1.is
+    c.read_node.ensures
+    ∙ node_view c.args.b.now c.told-b c.fits-b c.path_at-at.result c.path_at-at.ensures (not-false _ c.if-not-at.false) c.in-1.is
 
 pub returns-in-2 : goal.returns-in-2
 returns-in-2 c =
-    c.attribute.ensures
-    ∙ attribute_view c.args.b.now c.requires (λ i. omega (arith, c.type_inv.b i)) c.path_at-at.result c.path_at-at.ensures (not-false _ c.if-not-at.false) c.in-2.is
+    c.read_attribute.ensures
+    ∙ attribute_view c.args.b.now c.told-b c.fits-b c.path_at-at.result c.path_at-at.ensures (not-false _ c.if-not-at.false) c.in-2.is
 
 pub returns-in-3 : goal.returns-in-3
 returns-in-3 c =
-    c.permission.ensures
-    ∙ permission_view c.args.b.now c.requires (λ i. omega (arith, c.type_inv.b i)) c.path_at-at.result c.path_at-at.ensures (not-false _ c.if-not-at.false) c.in-3.is
+    c.read_permission.ensures
+    ∙ permission_view c.args.b.now c.told-b c.fits-b c.path_at-at.result c.path_at-at.ensures (not-false _ c.if-not-at.false) c.in-3.is
 
 pub returns-in_default : goal.returns-in_default
 returns-in_default c =
-    c.no_record-in_default.ensures
-    ∙ bad_view c.args.b.now c.requires (λ i. omega (arith, c.type_inv.b i)) c.path_at-at.result c.path_at-at.ensures
+    bad_view c.args.b.now c.told-b c.fits-b c.path_at-at.result c.path_at-at.ensures
     c.in_default.in_default-own.rest.0.0.1 c.in_default.in_default-own.rest.0.1 c.in_default.in_default-own.rest.1

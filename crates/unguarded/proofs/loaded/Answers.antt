@@ -4,12 +4,11 @@ use mathlib.Core.Path.{◌≡◌, sym, ap, ◌∙◌}
 use mathlib.Core.Bool.{true}
 use Rattle.model.specs.Image as images
 use Rattle.model.specs.Run.{dossier_good}
-use Rattle.image.specs.declared.Loaded.{Loaded}
 use Rattle.state.specs.declared.Outcome.TheVariants.{BadRecord}
 use Rattle.state.specs.View.{plain_of}
 use Rattle.unguarded.proofs.Loading.{found_bad, found_good, load_refused, load_bad, load_one, load_two}
 use Rattle.unguarded.proofs.loaded.Goals as goal
-use Rattle.unguarded.proofs.loaded.Goals.{After-load-l}
+use Rattle.unguarded.proofs.loaded.Goals.{After-load}
 
 pub returns-then-n-lt1 : goal.returns-then-n-lt1
 returns-then-n-lt1 c =
@@ -21,29 +20,22 @@ returns-then-n-gt2 c =
     ∙ load_refused c.requires.0 c.requires.1 c.args.n c.args.image.now (simp (le-leb 1 c.args.n c.if-n-lt1.false, lt-leb c.args.n 2 c.if-n-gt2.true))
 
 -- the number is 1 or 2
-fair : (c : After-load-l) → dossier_good c.args.n ≡ true
+fair : (c : After-load) → dossier_good c.args.n ≡ true
 fair c = simp (le-leb 1 c.args.n c.if-n-lt1.false, le-leb c.args.n 2 c.if-n-gt2.false)
 
-pub returns-then-not-l : goal.returns-then-not-l
-returns-then-not-l c =
-    let m = images.load c.args.image.now in
-    let e = c.load-l.ensures in
+pub returns-in-Err : goal.returns-in-Err
+returns-in-Err c =
     ap (λ a. record { one = c.args.one; two = c.args.two; answer = a }) c.plain.ensures
-    ∙ ap (λ (x : Loaded). record { one = c.args.one; two = c.args.two; answer = plain_of (BadRecord x.«record») }) e
-    ∙ load_bad c.requires.0 c.requires.1 c.args.n c.args.image.now _ (fair (goal.at.returns-then-not-l c).After-load-l) (found_bad m (sym (ap (λ (x : Loaded). x.good) e) ∙ not-true _ c.if-not-l.true))
+    ∙ load_bad c.requires.0 c.requires.1 c.args.n c.args.image.now _ (fair (goal.at.returns-in-Err c).After-load) (found_bad (images.load c.args.image.now) (sym c.in-Err.is ∙ c.load.ensures))
 
 pub returns-then-n-eq1 : goal.returns-then-n-eq1
 returns-then-n-eq1 c =
-    let m = images.load c.args.image.now in
-    let e = c.load-l.ensures in
-    let g = found_good m (sym (ap (λ (x : Loaded). x.good) e) ∙ not-false _ c.if-not-l.false) in
-    ap (λ a. record { one = c.load-l.result.dossier; two = c.args.two; answer = a }) c.plain-then-n-eq1.ensures
-    ∙ load_one c.requires.0 c.requires.1 c.args.n c.args.image.now (ap (λ (x : Loaded). x.dossier) e ∙ g.same) (fair (goal.at.returns-then-n-eq1 c).After-load-l) g.is (eq-eqb _ _ c.if-n-eq1.true)
+    let g = found_good (images.load c.args.image.now) (sym c.in-Ok.is ∙ c.load.ensures) in
+    ap (λ a. record { one = c.in-Ok.d; two = c.args.two; answer = a }) c.plain-then-n-eq1.ensures
+    ∙ load_one c.requires.0 c.requires.1 c.args.n c.args.image.now g.same (fair (goal.at.returns-then-n-eq1 c).After-load) g.is (eq-eqb _ _ c.if-n-eq1.true)
 
 pub returns : goal.returns
 returns c =
-    let m = images.load c.args.image.now in
-    let e = c.load-l.ensures in
-    let g = found_good m (sym (ap (λ (x : Loaded). x.good) e) ∙ not-false _ c.if-not-l.false) in
-    ap (λ a. record { one = c.args.one; two = c.load-l.result.dossier; answer = a }) c.plain-2.ensures
-    ∙ load_two c.requires.0 c.requires.1 c.args.n c.args.image.now (ap (λ (x : Loaded). x.dossier) e ∙ g.same) (fair (goal.at.returns c).After-load-l) g.is (ne_eqb _ _ c.if-n-eq1.false)
+    let g = found_good (images.load c.args.image.now) (sym c.in-Ok.is ∙ c.load.ensures) in
+    ap (λ a. record { one = c.args.one; two = c.in-Ok.d; answer = a }) c.plain-2.ensures
+    ∙ load_two c.requires.0 c.requires.1 c.args.n c.args.image.now g.same (fair (goal.at.returns c).After-load) g.is (ne_eqb _ _ c.if-n-eq1.false)

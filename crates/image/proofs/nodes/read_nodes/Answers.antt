@@ -9,7 +9,9 @@ use Rattle.tables.proofs.Tables.{nodes_none}
 use Rattle.image.specs.Rows.{node_fits_in}
 use Rattle.image.specs.Columns.{keys_of}
 use Rattle.image.proofs.Lent.{keys_long, keys_ascend, keys_below, fits_by_keys}
-use Rattle.image.proofs.Phases.{nodes_begin, node_path_sound, node_none_after, node_breaks, keys_more, nodes_more}
+use Rattle.parse.specs.declared.Record.TheVariants as kinds
+use Rattle.image.proofs.Stands.{row_is}
+use Rattle.image.proofs.Phases.{blamed, nodes_begin, node_path_sound, node_none_after, node_breaks, keys_more, nodes_more}
 use Rattle.image.proofs.nodes.read_nodes.Goals as goal
 use Rattle.image.proofs.nodes.read_nodes.Goals.{After-node_fits, Else-not-node_fits}
 
@@ -19,8 +21,8 @@ loop-k-init c = (nodes_begin _ _ c.no_nodes-t.ensures, ap (λ l. slots 64 0 (key
 pub node_fits-requires : goal.node_fits-requires
 node_fits-requires c =
     let l = c.loop-k in
-    let p = node_path_sound l.invariant.0 c.record_after-r.result c.record_after-r.ensures c.if-r-ne1.false in
-    let n = node_none_after l.invariant.0 c.record_after-r.result c.record_after-r.ensures c.if-r-ne1.false in (
+    let p = node_path_sound l.invariant.0 c.in-Some-Node.node (row_is kinds.Node c.in-Some-Node.is c.in-Some-Node.field-0-is c.record_after.ensures) in
+    let n = node_none_after l.invariant.0 c.in-Some-Node.node (row_is kinds.Node c.in-Some-Node.is c.in-Some-Node.field-0-is c.record_after.ensures) in (
       keys_long l.t l.invariant.0.sound l.keys l.invariant.1,
       keys_ascend l.t l.invariant.0.sound l.keys l.invariant.1,
       p,
@@ -29,23 +31,23 @@ node_fits-requires c =
 
 -- what is asked of the column is asked of the table
 answer : (c : After-node_fits)
-    → c.node_fits.result ≡ node_fits_in (steps c.record_after-r.result.path) (view_nodes c.loop-k.t)
+    → c.node_fits.result ≡ node_fits_in (steps c.in-Some-Node.node.path) (view_nodes c.loop-k.t)
 answer c =
     let l = c.loop-k in
-    c.node_fits.ensures ∙ fits_by_keys l.t l.invariant.0.sound l.keys l.invariant.1 (steps c.record_after-r.result.path)
+    c.node_fits.ensures ∙ fits_by_keys l.t l.invariant.0.sound l.keys l.invariant.1 (steps c.in-Some-Node.node.path)
 
 pub returns-then-not-node_fits : goal.returns-then-not-node_fits
 returns-then-not-node_fits c =
     let l = c.loop-k in
-    node_breaks l.invariant.0 c.record_after-r.result c.record_after-r.ensures c.if-r-ne1.false c.loop-k-test.true (sym (answer (goal.at.returns-then-not-node_fits c).After-node_fits) ∙ not-true _ c.if-not-node_fits.true-raw)
+    blamed (node_breaks l.invariant.0 c.in-Some-Node.node (row_is kinds.Node c.in-Some-Node.is c.in-Some-Node.field-0-is c.record_after.ensures) c.loop-k-test.true (sym (answer (goal.at.returns-then-not-node_fits c).After-node_fits) ∙ not-true _ c.if-not-node_fits.true-raw))
 
 fit : (c : Else-not-node_fits)
-    → node_fits_in (steps c.record_after-r.result.path) (view_nodes c.loop-k.t) ≡ true
+    → node_fits_in (steps c.in-Some-Node.node.path) (view_nodes c.loop-k.t) ≡ true
 fit c = sym (answer (goal.at-Else-not-node_fits c).After-node_fits) ∙ not-false _ c.if-not-node_fits.false-raw
 
 pub loop-k-preserved : goal.loop-k-preserved
 loop-k-preserved c =
     let l = c.loop-k in (
-      nodes_more l.invariant.0 c.record_after-r.result c.record_after-r.ensures c.if-r-ne1.false (fit (goal.at.loop-k-preserved c).Else-not-node_fits) c.loop-k-test.true,
-      keys_more l.invariant.0 c.record_after-r.result c.record_after-r.ensures c.if-r-ne1.false (fit (goal.at.loop-k-preserved c).Else-not-node_fits) l.invariant.1 c.key.ensures,
+      nodes_more l.invariant.0 c.in-Some-Node.node (row_is kinds.Node c.in-Some-Node.is c.in-Some-Node.field-0-is c.record_after.ensures) (fit (goal.at.loop-k-preserved c).Else-not-node_fits) c.loop-k-test.true,
+      keys_more l.invariant.0 c.in-Some-Node.node (row_is kinds.Node c.in-Some-Node.is c.in-Some-Node.field-0-is c.record_after.ensures) (fit (goal.at.loop-k-preserved c).Else-not-node_fits) l.invariant.1 c.key.ensures,
     )

@@ -1,6 +1,5 @@
 -- `image::nodes::read_nodes` meets its contract. The loop's invariant: the records so far are good nodes, the table holds them, and the keys are its column. Assumes nothing.
 use mathlib.Core.Path.{◌≡◌}
-use Prim.Native.Nat.{◌-◌}
 use Rattle.laws.specs.Slots.{slots}
 use Rattle.tables.specs.View.{view_nodes}
 use Rattle.image.specs.Rows.{NodesUpto}
@@ -9,6 +8,3 @@ use Rattle.image.proofs.nodes.read_nodes.Given as goal
 
 abbrev pub invariant-loop-k : goal.invariant-loop-k
 invariant-loop-k l = NodesUpto l.image l.n l.k l.t × (l.keys ≡ slots 64 0 (keys_of (view_nodes l.t)))
-
-abbrev pub decreases-loop-k : goal.decreases-loop-k
-decreases-loop-k l = l.n - l.k

@@ -1,20 +1,15 @@
--- `parse::numbers::is_finite` meets its contract. Assumes nothing.
-use lib.Ieee.{nan_bits, of_bits}
-use Rattle.parse.proofs.Readings.{between, beyond}
+-- `parse::numbers::is_finite` meets its contract: std's word is the model's. Assumes nothing.
+use mathlib.Core.Path.{◌≡◌, refl, ◌∙◌}
+use lib.Ieee.{Float, nan, inf, fin}
+use Rattle.std.specs.Float.{float_is_finite}
+use Rattle.model.specs.Refusals.{finite}
 use Rattle.parse.proofs.numbers.is_finite.Goals as goal
 
-pub float_from_bits-top : goal.float_from_bits-top
-unfolding nan_bits
-float_from_bits-top c = tt
-
-pub float_from_bits-bottom : goal.float_from_bits-bottom
-unfolding nan_bits
-float_from_bits-bottom c = tt
-
-pub returns-then-x-top : goal.returns-then-x-top
-unfolding of_bits
-returns-then-x-top c = between c.args.x c.if-x-top.true
+same_word : (x : Float) → float_is_finite x ≡ finite x
+unfolding float_is_finite
+same_word nan = refl
+same_word (inf s) = refl
+same_word (fin s m e) = refl
 
 pub returns : goal.returns
-unfolding of_bits
-returns c = beyond c.args.x c.if-x-top.false
+returns c = c.is_finite.ensures.value ∙ same_word c.args.x
