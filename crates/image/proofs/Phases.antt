@@ -23,9 +23,9 @@ use Rattle.model.specs.Decide.{clash_any}
 use Rattle.model.specs.Moves.{owner_in, attribute_in, names_in, permissions_in, object_at}
 use Rattle.model.specs.Image.{good, node_record, attribute_record, permission_record, node_fits, attribute_fits, left, there}
 use Rattle.roundtrip.proofs.Found.{fits, fits_in, fits_out}
-use Rattle.tables.specs.declared.Nodes.{Nodes}
-use Rattle.tables.specs.declared.Attributes.{Attributes}
-use Rattle.tables.specs.declared.Permissions.{Permissions}
+use Rattle.tables.specs.View.{Nodes}
+use Rattle.tables.specs.View.{Attributes}
+use Rattle.tables.specs.View.{Permissions}
 use Rattle.tables.specs.View.{node_row, view_nodes, nodes_with, nodes_of, view_attributes, attributes_with, attributes_of, no_attribute, view_permissions, permissions_with, permissions_of, view_grant}
 use Rattle.tables.specs.Places.{Object, before_object, of_attribute, of_permission}
 use Rattle.tables.proofs.Rows.{view_nodes_lem, view_attributes_lem, view_permissions_lem}

@@ -14,7 +14,7 @@ use Rattle.path.specs.Address.{Address, same}
 use Rattle.path.specs.View.{steps}
 use Rattle.model.specs.Things as things
 use Rattle.model.specs.Moves.{at}
-use Rattle.tables.specs.declared.Attributes.{Attributes}
+use Rattle.tables.specs.View.{Attributes}
 use Rattle.tables.specs.View.{view_attribute, view_attributes, AttributesSound, no_attribute}
 use Rattle.tables.specs.Places.{place_of}
 use Rattle.tables.proofs.Rows.{attributes_held}
