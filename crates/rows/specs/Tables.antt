@@ -1,8 +1,8 @@
 -- Tables of any rows and the model: the table that stands for a list of rows, what a table is seen as, and what it must be to be held.
-use Rattle.std.specs.Prelude.{◌≡◌, Bool, List, map, ℕ, take, length, Option, None, Some}
+use Rattle.std.specs.Prelude.{◌≡◌, Bool, List, map, ℕ, ◌+◌, ◌≤◌, take, length, Option, None, Some}
 use Rattle.std.proofs.Math.Option as math
 use Rattle.laws.specs.Slots.{slots, Is}
-use Rattle.laws.specs.Sorted.{StrictOrder}
+use Rattle.laws.specs.Sorted.{◌∈◌, StrictOrder, Sorted, Disjoint}
 use Rattle.laws.specs.Order.{lt_pair}
 use Rattle.path.specs.Address.{Address, before}
 use Rattle.path.specs.View.{path_of}
@@ -49,3 +49,14 @@ module _ {S P : Type 0} where
   -- each answer for a sound row is what g has of it
   abbrev pub Gives : (Row P → S) → (S → Row P) → (S → Option S → Type 0) → Step P → Type 0
   Gives of view post g = (s : S) (o : Option S) → RowSound of s → post s o → o ≡ given of (g (view s))
+
+  -- rows that are put among those of a table: both in order, none in both, and how a test compares one with another
+  pub record Merging (n : ℕ) (b : S) (of : Row P → S) (view : S → Row P) (lt : P → P → Bool) (pre : S → S → Type 0) (post : S → S → Bool → Type 0) (c : List S) (t : Table S n) : Type 0 where
+    pub new : c ≡ map of (map view c)
+    pub table : t ≡ table_of n b of (seen view t)
+    pub room : length c + t.count ≤ n
+    pub ascend_new : Sorted (row_lt lt) (map view c)
+    pub ascend : Sorted (row_lt lt) (seen view t)
+    pub disjoint : Disjoint (map view c) (seen view t)
+    pub callable : (x y : Row P) → x ∈ map view c → y ∈ seen view t → pre (of x) (of y)
+    pub compares : (x y : Row P) (r : Bool) → x ∈ map view c → y ∈ seen view t → post (of x) (of y) r → r ≡ row_lt lt x y

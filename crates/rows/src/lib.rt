@@ -1,12 +1,12 @@
 // What is done to a table, whichever rows it has.
 #![tactic(auto)]
 
-ghost use Rattle.std.specs.Prelude.{◌≡◌, Bool, ◌≤◌, ◌<◌, length};
-ghost use Rattle.laws.specs.Sorted.{move};
+ghost use Rattle.std.specs.Prelude.{◌≡◌, Bool, map};
+ghost use Rattle.laws.specs.Sorted.{merge, move};
 ghost use Rattle.path.specs.Address.{Address};
 ghost use Rattle.path.specs.View.{steps, path_of, PathSound};
 ghost use Rattle.model.specs.Things as things;
-ghost use Rattle.rows.specs.Tables.{row_lt, RowSound, seen, table_of, TableSound, RowLaws, Step, Gives};
+ghost use Rattle.rows.specs.Tables.{row_lt, RowSound, seen, table_of, TableSound, RowLaws, Step, Gives, Merging};
 
 use path::Path;
 use tables::Table;
@@ -61,4 +61,26 @@ pub fn moved<R: Row, const N: usize, F: Fn(R) -> Option<R>>(t: &Table<R, N>, f: 
         }
     }
     Table { rows, count }
+}
+
+// The rows of c put among those of t, in order: from the end, at each turn the row that comes last.
+pub fn merged<R: Row, const N: usize, F: Fn(R, R) -> bool>(c: &[R], t: Table<R, N>, before: F) -> Table<R, N>
+    requires { Merging N R.blank R.of R.view R.lt (λ x y. F.pre before x y) (λ x y r. F.post before x y r) c.now t }
+    ensures { result ≡ table_of N R.blank R.of (merge (row_lt R.lt) (map R.view c.now) (seen R.view t)) }
+{
+    let mut out = t;
+    let mut i = c.len();
+    let mut j = t.count;
+    out.count = i + j;
+    while 0 < i {
+        let new = c[i - 1];
+        if 0 < j && before(new, out.rows[j - 1]) {
+            j -= 1;
+            out.rows[i + j] = out.rows[j];
+        } else {
+            i -= 1;
+            out.rows[i + j] = new;
+        }
+    }
+    out
 }
