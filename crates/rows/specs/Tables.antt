@@ -1,5 +1,5 @@
 -- Tables of any rows and the model: the table that stands for a list of rows, what a table is seen as, and what it must be to be held.
-use Rattle.std.specs.Prelude.{◌≡◌, Bool, List, map, ℕ, ◌+◌, ◌≤◌, take, length, Option, None, Some}
+use Rattle.std.specs.Prelude.{◌≡◌, Bool, List, map, ℕ, ltb, ◌+◌, ◌≤◌, take, length, Option, None, Some}
 use Rattle.std.proofs.Math.Option as math
 use Rattle.laws.specs.Slots.{slots, Is}
 use Rattle.laws.specs.Sorted.{◌∈◌, StrictOrder, Sorted, Disjoint}
@@ -7,13 +7,21 @@ use Rattle.laws.specs.Order.{lt_pair}
 use Rattle.path.specs.Address.{Address, before}
 use Rattle.path.specs.View.{path_of}
 use Rattle.path.specs.declared.Path.{Path}
-use Rattle.model.specs.Things.{Row}
+use Rattle.model.specs.Things.{Row, Permission, lt_permission}
 use Rattle.tables.specs.declared.Table.{Table}
 use Rattle.tables.specs.View.{AtPath, Fits}
 
 -- rows by their paths, then by what stands there
 abbrev pub row_lt : {P : Type 0} → (P → P → Bool) → Row P → Row P → Bool
 row_lt lt = lt_pair before lt
+
+-- of two permissions at one path: by name, then by the permission
+abbrev pub lt_named : ℕ × Permission → ℕ × Permission → Bool
+lt_named = lt_pair ltb lt_permission
+
+-- not the same row
+abbrev pub Differ : {A : Type 0} → A → A → Type 0
+Differ r s = r ≡ s → ⊥
 
 abbrev pub table_with : {S : Type 0} (n : ℕ) → List S → ℕ → Table S n
 table_with n l k = record { rows = l; count = k }

@@ -3,48 +3,12 @@
 
 ghost use Rattle.std.specs.Prelude.{◌≡◌, Bool, map};
 ghost use Rattle.laws.specs.Sorted.{merge, move};
-ghost use Rattle.path.specs.Address.{Address};
-ghost use Rattle.path.specs.View.{steps, path_of, PathSound};
-ghost use Rattle.model.specs.Things as things;
-ghost use Rattle.rows.specs.Tables.{row_lt, RowSound, seen, table_of, TableSound, RowLaws, Step, Gives, Merging};
+ghost use Rattle.rows.specs.Tables.{row_lt, RowSound, seen, table_of, TableSound, Step, Gives, Merging};
 
-use path::Path;
+use kinds::Row;
 use tables::Table;
 
-// A row of a table: what stands at a path.
-pub trait Row: Copy {
-    ghost Payload: { Type 0 };
-
-    // the row that stands for the model's, and what a row is seen as
-    ghost of: { things.Row Payload → Self };
-
-    ghost view: { Self → things.Row Payload };
-
-    // behind the rows of a table
-    ghost blank: { Self };
-
-    // the order of rows at one path, and which rows it is asked of
-    ghost lt: { Payload → Payload → Bool };
-
-    ghost apart: { things.Row Payload → things.Row Payload → Type 0 };
-
-    fn unused() -> Self
-        ensures { result ≡ blank };
-
-    fn path(self) -> Path
-        ensures { (r : things.Row Payload) → self ≡ of r → result ≡ path_of r.0 };
-
-    // The same at another path: all but its place stays.
-    fn placed(self, p: Path) -> Self
-        ensures { (l : Address) → p ≡ path_of l → result ≡ of (l, (view self).1) };
-
-    // Whether it comes before another in the order of records.
-    fn is_before(self, other: Self) -> bool
-        requires { RowSound of self × RowSound of other × apart (view self) (view other) }
-        ensures { result ≡ row_lt lt (view self) (view other) };
-
-    ghost laws: { RowLaws of view lt apart };
-}
+pub mod kinds;
 
 // What f gives for the rows of t, in turn.
 pub fn moved<R: Row, const N: usize, F: Fn(R) -> Option<R>>(t: &Table<R, N>, f: F) -> Table<R, N>
