@@ -63,8 +63,8 @@ module _ {S P : Type 0} {n : ℕ} {b : S} {of : Row P → S} {view : S → Row P
       let k = length-map c view in
       let q = interleave_is_merge (row_lt lt) order m.ascend_new m.ascend m.disjoint in
       falls (table_with n) of n t.rows b t.count (length c + t.count)
-          (sym q ∙ ap₂ (interleave (row_lt lt)) (sym (take_all (length c) (map view c) (omega arith))) (sym (take_all t.count (seen view t) (omega arith)))) (held_length held)
-          (ap length (sym q) ∙ inter_length (row_lt lt) (map view c) (seen view t) ∙ omega arith) (held_blank held (length c + t.count) (omega arith))
+      (sym q ∙ ap₂ (interleave (row_lt lt)) (sym (take_all (length c) (map view c) (omega arith))) (sym (take_all t.count (seen view t) (omega arith)))) (held_length held)
+      (ap length (sym q) ∙ inter_length (row_lt lt) (map view c) (seen view t) ∙ omega arith) (held_blank held (length c + t.count) (omega arith))
 
   pub ends : {out : List S} {i j : ℕ} → Merged out i j → i ≡ 0 → j ≤ t.count → table_with n out (length c + t.count) ≡ table_of n b of (merge (row_lt lt) (map view c) (seen view t))
   ends {i = i} {j} f e h =
@@ -87,7 +87,7 @@ module _ {S P : Type 0} {n : ℕ} {b : S} {of : Row P → S} {view : S → Row P
     only_left z =
         let room = m.room in
         fall f x (i - 1 + j) j (i - 1 + j) (omega arith) refl (omega arith) (omega arith) (omega arith)
-            (ends_only_first (row_lt lt) (ap (λ k. take k (seen view t)) z) left_last) left_same
+        (ends_only_first (row_lt lt) (ap (λ k. take k (seen view t)) z) left_last) left_same
 
     module _ (q : 0 < j) (d : S) where
       abbrev y : S
@@ -113,10 +113,10 @@ module _ {S P : Type 0} {n : ℕ} {b : S} {of : Row P → S} {view : S → Row P
           let room = m.room in
           let full = f.full in
           fall f (get_or out (j - 1) d') (i + (j - 1)) (j - 1) (i + (j - 1)) (omega arith) refl (omega arith) (omega arith) (omega arith)
-              (ends_second (row_lt lt) order left_last right_last (sorted_take (row_lt lt) i m.ascend_new) (says a)) (get_or_default out (j - 1) d' d (omega arith) ∙ right_same)
+          (ends_second (row_lt lt) order left_last right_last (sorted_take (row_lt lt) i m.ascend_new) (says a)) (get_or_default out (j - 1) d' d (omega arith) ∙ right_same)
 
       pub left : post x y false → Merged (set out (i - 1 + j) x) (i - 1) j
       left a =
           let room = m.room in
           fall f x (i - 1 + j) j (i - 1 + j) (omega arith) refl (omega arith) (omega arith) (omega arith)
-              (ends_first (row_lt lt) order left_last right_last (sorted_take (row_lt lt) j m.ascend) (λ z. m.disjoint (view x) left_in (subst (λ w. w ∈ seen view t) (sym z) right_in)) (says a)) left_same
+          (ends_first (row_lt lt) order left_last right_last (sorted_take (row_lt lt) j m.ascend) (λ z. m.disjoint (view x) left_in (subst (λ w. w ∈ seen view t) (sym z) right_in)) (says a)) left_same

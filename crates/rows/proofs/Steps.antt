@@ -10,8 +10,10 @@ use lib.Seq.{length-take-le, get_or-take}
 use Rattle.std.specs.Prelude.{Option, Some, None}
 use Rattle.laws.specs.Sorted.{move}
 use Rattle.laws.specs.Slots.{Is}
-use Rattle.laws.proofs.Fill.{Held, held_room, held_full, held_each, held_next, Fills, turn, instead, done, row_end}
-use Rattle.path.proofs.Structs.{no}
+use Rattle.laws.proofs.Fill.{Held, held_room, held_full, held_each, held_next, Fills, turn, instead, done, row_end, is_seen}
+use Rattle.path.specs.View.{steps, path_of, PathSound}
+use Rattle.path.specs.declared.Path.{Path}
+use Rattle.path.proofs.Structs.{view_path}
 use Rattle.model.specs.Things.{Row}
 use Rattle.tables.specs.declared.Table.{Table}
 use Rattle.tables.specs.View.{AtPath}
@@ -71,7 +73,7 @@ module _ {S P : Type 0} {n : ℕ} {b : S} {of : Row P → S} (view : S → Row P
           let room = held_room of AtPath n b t.rows t.count h in
           let w = gave of (k (view x)) a in
           turn (table_with n) of (move k) n _ rows count f (view x) (drop (i + 1) (seen view t)) w.0 s (omega arith) next
-              (one_more k (view x) (drop (i + 1) (seen view t)) w.1) w.2
+          (one_more k (view x) (drop (i + 1) (seen view t)) w.1) w.2
 
       pub filled_past : given of (k (view x)) ≡ None → Filled rows count (i + 1)
       filled_past a =
@@ -82,3 +84,11 @@ module _ {S P : Type 0} {n : ℕ} {b : S} {of : Row P → S} (view : S → Row P
     filled_end {rows} {count} {i} f c =
         let size = length-take-le t.count t.rows (held_full of AtPath n b t.rows t.count h) in
         done (table_with n) of (move k) n _ rows count f (row_end view t.rows t.count i (omega arith)) refl
+
+-- ---- a sound row: its path, and where its path goes
+module _ {S P : Type 0} {of : Row P → S} (view : S → Row P) (back : (r : Row P) → view (of r) ≡ r) {s : S} (h : RowSound of s) {p : Path} (e : (r : Row P) → s ≡ of r → p ≡ path_of r.0) where
+  pub path_sound : PathSound p
+  path_sound = record { model = h.model.0; same = e h.model h.same; fits = h.fits }
+
+  pub path_steps : steps p ≡ (view s).0
+  path_steps = ap steps (e h.model h.same) ∙ view_path h.model.0 ∙ ap (λ (r : Row P). r.0) (sym (is_seen of view back AtPath s h))

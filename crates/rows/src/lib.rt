@@ -3,9 +3,16 @@
 
 ghost use Rattle.std.specs.Prelude.{◌≡◌, Bool, map};
 ghost use Rattle.laws.specs.Sorted.{merge, move};
-ghost use Rattle.rows.specs.Tables.{row_lt, RowSound, seen, table_of, TableSound, Step, Gives, Merging};
+ghost use Rattle.std.proofs.Math.Option as math;
+ghost use Rattle.path.specs.Address.{Address, up, down, off};
+ghost use Rattle.path.specs.View.{steps, moved_of, PathSound};
+ghost use Rattle.model.specs.Moves as model;
+ghost use Rattle.model.specs.Moves.{carry};
+ghost use Rattle.moves.specs.Moved.{raised, below};
+ghost use Rattle.rows.specs.Tables.{given, row_lt, RowSound, seen, table_of, TableSound, Step, Gives, Merging};
 
 use kinds::Row;
+use path::{Moved, Path, path_down, path_up};
 use tables::Table;
 
 pub mod kinds;
@@ -28,7 +35,11 @@ pub fn moved<R: Row, const N: usize, F: Fn(R) -> Option<R>>(t: &Table<R, N>, f: 
 }
 
 // The rows of c put among those of t, in order: from the end, at each turn the row that comes last.
-pub fn merged<R: Row, const N: usize, F: Fn(R, R) -> bool>(c: &[R], t: Table<R, N>, before: F) -> Table<R, N>
+pub fn merged<R: Row, const N: usize, F: Fn(R, R) -> bool>(
+    c: &[R],
+    t: Table<R, N>,
+    before: F,
+) -> Table<R, N>
     requires { Merging N R.blank R.of R.view R.lt (λ x y. F.pre before x y) (λ x y r. F.post before x y r) c.now t }
     ensures { result ≡ table_of N R.blank R.of (merge (row_lt R.lt) (map R.view c.now) (seen R.view t)) }
 {
@@ -47,4 +58,46 @@ pub fn merged<R: Row, const N: usize, F: Fn(R, R) -> bool>(c: &[R], t: Table<R, 
         }
     }
     out
+}
+
+// ---- tables whose rows go where their paths go
+
+// The row at its new path, if it has one.
+fn carried<R: Row>(row: R, to: Moved) -> Option<R>
+    requires { RowSound R.of row }
+    ensures { (o : math.Option Address) → to ≡ moved_of o → result ≡ given R.of (carry (λ p. o) (R.view row)) }
+{
+    if to.there {
+        Some(row.placed(to.path))
+    } else {
+        None
+    }
+}
+
+// After an add or a paste at q: at or below q, or a later sibling of it, that step is one higher; the others stay.
+pub fn up<R: Row, const N: usize>(t: &Table<R, N>, q: Path) -> Table<R, N>
+    requires { TableSound N R.blank R.of R.lt t.now × PathSound q }
+    ensures { result ≡ table_of N R.blank R.of (raised (steps q) (seen R.view t.now)) }
+{
+    moved(
+        t,
+        |row: R| -> Option<R>
+            requires { RowSound R.of row × PathSound q }
+            ensures { result ≡ given R.of (carry (λ p. math.some (up (steps q) p)) (R.view row)) }
+        { Some(row.placed(path_up(row.path(), q))) },
+    )
+}
+
+// After a delete at q: rows at or below q go; at or below a later sibling that step is one lower.
+pub fn down<R: Row, const N: usize>(t: &Table<R, N>, q: Path) -> Table<R, N>
+    requires { TableSound N R.blank R.of R.lt t.now × PathSound q }
+    ensures { result ≡ table_of N R.blank R.of (model.carried (down (steps q)) (seen R.view t.now)) }
+{
+    moved(
+        t,
+        |row: R| -> Option<R>
+            requires { RowSound R.of row × PathSound q }
+            ensures { result ≡ given R.of (carry (down (steps q)) (R.view row)) }
+        { carried(row, path_down(row.path(), q)) },
+    )
 }

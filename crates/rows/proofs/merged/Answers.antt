@@ -38,10 +38,10 @@ loop-i-preserved g c =
       length-set l.out.rows _ _ ∙ l.invariant.3,
       l.invariant.4,
       elim c.else-j-gt0.branch [
-        else-j-gt0-via-then-j-gt0+else-before w ↦
-          left g.met.R.Row.laws c.requires l.invariant.5 c.loop-i-test.true l.invariant.0 l.invariant.1 c.index-c-i.is w.if-j-gt0.true w.index-out-j.result
-              (subst (λ b. g.F.Fn.post c.args.before (c.index-c-i.result, (get_or l.out.rows (l.j - 1) w.index-out-j.result, tt)) b) w.if-before.false w.before-then-j-gt0.ensures)
-      | else-j-gt0-via-else-j-gt0 w ↦ only_left g.met.R.Row.laws c.requires l.invariant.5 c.loop-i-test.true l.invariant.0 l.invariant.1 c.index-c-i.is (omega (arith, w.if-j-gt0.false))
+        | else-j-gt0-via-then-j-gt0+else-before w ↦
+            left g.met.R.Row.laws c.requires l.invariant.5 c.loop-i-test.true l.invariant.0 l.invariant.1 c.index-c-i.is w.if-j-gt0.true w.index-out-j.result
+            (subst (λ b. g.F.Fn.post c.args.before (c.index-c-i.result, (get_or l.out.rows (l.j - 1) w.index-out-j.result, tt)) b) w.if-before.false w.before-then-j-gt0.ensures)
+        | else-j-gt0-via-else-j-gt0 w ↦ only_left g.met.R.Row.laws c.requires l.invariant.5 c.loop-i-test.true l.invariant.0 l.invariant.1 c.index-c-i.is (omega (arith, w.if-j-gt0.false))
       ],
     )
 

@@ -35,21 +35,21 @@ loop-row-preserved g c =
     let x = c.row-item.result in
     let s = row_sound r.view h l.row-index x x c.row-item.is c.loop-row-test.true in
     elim c.match-f.branch [
-      in-Some w ↦ (
+      | in-Some w ↦ (
         omega (arith, w.count-is),
         ap length w.rows-is ∙ length-set l.rows l.count w.in-Some.kept ∙ l.invariant.1,
         l.invariant.2,
         λ k m.
-        rw (w.rows-is, w.count-is)
-        (filled_more r.view h k (l.invariant.3 k m) x x c.row-item.is c.loop-row-test.true l.invariant.0 (sym (m x c.f.result s c.f.ensures) ∙ w.in-Some.is)),
+            rw (w.rows-is, w.count-is)
+            (filled_more r.view h k (l.invariant.3 k m) x x c.row-item.is c.loop-row-test.true l.invariant.0 (sym (m x c.f.result s c.f.ensures) ∙ w.in-Some.is)),
       )
-    | in_default w ↦ (
+      | in_default w ↦ (
         omega (arith, w.count-is),
         ap length w.rows-is ∙ l.invariant.1,
         l.invariant.2,
         λ k m.
-        rw (w.rows-is, w.count-is)
-        (filled_past r.view h k (l.invariant.3 k m) x x c.row-item.is c.loop-row-test.true (sym (m x c.f.result s c.f.ensures) ∙ w.in_default.is)),
+            rw (w.rows-is, w.count-is)
+            (filled_past r.view h k (l.invariant.3 k m) x x c.row-item.is c.loop-row-test.true (sym (m x c.f.result s c.f.ensures) ∙ w.in_default.is)),
       )
     ]
 
