@@ -1,18 +1,20 @@
 // What is done to a table, whichever rows it has.
 #![tactic(auto)]
 
-ghost use Rattle.std.specs.Prelude.{◌≡◌, Bool, map};
-ghost use Rattle.laws.specs.Sorted.{merge, move};
+ghost use Rattle.std.specs.Prelude.{◌≡◌, Bool, ◌+◌, ◌≤◌, ◌<◌, ltb, length, map};
+ghost use Rattle.laws.specs.Sorted.{◌∈◌, insert, merge, move};
 ghost use Rattle.std.proofs.Math.Option as math;
-ghost use Rattle.path.specs.Address.{Address, up, down, off};
-ghost use Rattle.path.specs.View.{steps, moved_of, PathSound};
+ghost use Rattle.path.specs.Address.{Address, up, down, off, on, in_depth};
+ghost use Rattle.path.specs.View.{steps, path_of, moved_of, key_of, PathSound};
 ghost use Rattle.model.specs.Moves as model;
 ghost use Rattle.model.specs.Moves.{carry};
 ghost use Rattle.moves.specs.Moved.{raised, below};
+ghost use Rattle.moves.specs.Room.{Shallow};
+ghost use Rattle.model.specs.Things as things;
 ghost use Rattle.rows.specs.Tables.{given, row_lt, RowSound, seen, table_of, TableSound, Step, Gives, Merging};
 
 use kinds::Row;
-use path::{Moved, Path, path_down, path_up};
+use path::{Moved, Path, key, path_down, path_off, path_on, path_up};
 use tables::Table;
 
 pub mod kinds;
@@ -99,5 +101,66 @@ pub fn down<R: Row, const N: usize>(t: &Table<R, N>, q: Path) -> Table<R, N>
             requires { RowSound R.of row × PathSound q }
             ensures { result ≡ given R.of (carry (down (steps q)) (R.view row)) }
         { carried(row, path_down(row.path(), q)) },
+    )
+}
+
+// Those of the branch at q, prefix removed.
+pub fn off<R: Row, const N: usize>(t: &Table<R, N>, q: Path) -> Table<R, N>
+    requires { TableSound N R.blank R.of R.lt t.now × PathSound q }
+    ensures { result ≡ table_of N R.blank R.of (model.carried (off (steps q)) (seen R.view t.now)) }
+{
+    moved(
+        t,
+        |row: R| -> Option<R>
+            requires { RowSound R.of row × PathSound q }
+            ensures { result ≡ given R.of (carry (off (steps q)) (R.view row)) }
+        { carried(row, path_off(row.path(), q)) },
+    )
+}
+
+// Those of the branch c, with the prefix q.
+fn on<R: Row, const N: usize>(c: &Table<R, N>, q: Path) -> Table<R, N>
+    requires { TableSound N R.blank R.of R.lt c.now × PathSound q × Shallow (steps q) (seen R.view c.now) }
+    ensures { result ≡ table_of N R.blank R.of (below (steps q) (seen R.view c.now)) }
+{
+    moved(
+        c,
+        |row: R| -> Option<R>
+            requires { RowSound R.of row × PathSound q }
+            ensures { result ≡ given R.of (carry (λ p. in_depth (on (steps q) p)) (R.view row)) }
+        { carried(row, path_on(row.path(), q)) },
+    )
+}
+
+// Those of the branch c pasted at q, which is not the root: what stood there has moved as for an add.
+pub fn paste<R: Row, const N: usize>(c: &Table<R, N>, t: &Table<R, N>, q: Path) -> Table<R, N>
+    requires sound { TableSound N R.blank R.of R.lt c.now × TableSound N R.blank R.of R.lt t.now × PathSound q × (0 < length (steps q)) }
+    requires count_bound { (c.now.count + t.now.count ≤ N) × Shallow (steps q) (seen R.view c.now) }
+    ensures { result ≡ table_of N R.blank R.of (merge (row_lt R.lt) (below (steps q) (seen R.view c.now)) (raised (steps q) (seen R.view t.now))) }
+{
+    let branch = on(c, q);
+    let rest = up(t, q);
+    merged(
+        &branch.rows[..branch.count],
+        rest,
+        |x: R, y: R| -> bool
+            ensures { (r s : things.Row R.Payload) → x ≡ R.of r → y ≡ R.of s → result ≡ ltb (key_of (path_of r.0)) (key_of (path_of s.0)) }
+        { key(x.path()) < key(y.path()) },
+    )
+}
+
+// One row more, where it comes in the order of records; it is apart from all that are there.
+pub fn insert<R: Row, const N: usize>(a: R, t: Table<R, N>) -> Table<R, N>
+    requires sound { RowSound R.of a × TableSound N R.blank R.of R.lt t }
+    requires room { (t.count < N) × ((r : things.Row R.Payload) → r ∈ seen R.view t → R.apart (R.view a) r) }
+    ensures { result ≡ table_of N R.blank R.of (insert (row_lt R.lt) (R.view a) (seen R.view t)) }
+{
+    merged(
+        &[a],
+        t,
+        |x: R, y: R| -> bool
+            requires { RowSound R.of x × RowSound R.of y × R.apart (R.view x) (R.view y) }
+            ensures { result ≡ row_lt R.lt (R.view x) (R.view y) }
+        { x.is_before(y) },
     )
 }
