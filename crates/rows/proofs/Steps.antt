@@ -1,6 +1,6 @@
 -- What a function of rows gives, as the model has it. Assumes nothing.
 use mathlib.Core.Path.{◌≡◌, refl, sym, ap, subst, ◌∙◌}
-use mathlib.Core.Bool.{Bool}
+use mathlib.Core.Bool.{Bool, true, false}
 use mathlib.Core.Option as math
 use mathlib.Core.List.{List, ◌∷◌}
 use Prim.Native.Nat.{ℕ, ◌+◌, ◌≤◌, ◌<◌}
@@ -15,6 +15,7 @@ use Rattle.path.specs.View.{steps, path_of, PathSound}
 use Rattle.path.specs.declared.Path.{Path}
 use Rattle.path.proofs.Structs.{view_path}
 use Rattle.model.specs.Things.{Row}
+use Rattle.model.specs.Moves.{keep}
 use Rattle.tables.specs.declared.Table.{Table}
 use Rattle.tables.specs.View.{AtPath}
 use Rattle.rows.specs.Tables.{RowSound, given, Step, seen, table_of, table_with, TableSound}
@@ -92,3 +93,11 @@ module _ {S P : Type 0} {of : Row P → S} (view : S → Row P) (back : (r : Row
 
   pub path_steps : steps p ≡ (view s).0
   path_steps = ap steps (e h.model h.same) ∙ view_path h.model.0 ∙ ap (λ (r : Row P). r.0) (sym (is_seen of view back AtPath s h))
+
+-- ---- a row kept or not
+module _ {S P : Type 0} (of : Row P → S) (test : Row P → Bool) where
+  pub kept : {x : Row P} {s : S} → s ≡ of x → test x ≡ true → Some s ≡ given of (keep test x)
+  kept e t = rw t (ap Some e)
+
+  pub dropped : (x : Row P) → test x ≡ false → None ≡ given of (keep test x)
+  dropped x t = rw t refl
