@@ -27,7 +27,7 @@ use Rattle.tables.specs.View.{AtPath, Fits}
 use Rattle.rows.specs.Tables as tables
 use Rattle.rows.specs.Tables.{RowSound, table_of, TableSound, RowLaws, Merging}
 
-all_in : {A : Type 0} (Q : A → Type 0) (x : A) (l : List A) → All Q l → x ∈ l → Q x
+pub all_in : {A : Type 0} (Q : A → Type 0) (x : A) (l : List A) → All Q l → x ∈ l → Q x
 all_in Q x [] h m = absurd (Memᴰ.not-nil m)
 all_in Q x (y ∷ l) h (Memᴰ.head e) = subst Q (sym e) h.0
 all_in Q x (y ∷ l) h (Memᴰ.tail m) = all_in Q x l h.1 m
