@@ -20,9 +20,9 @@ use Rattle.model.specs.Things as things
 use Rattle.model.specs.Things.{Row}
 use Rattle.tables.specs.declared.Value.{Value}
 use Rattle.tables.specs.declared.Grant.{Grant}
-use Rattle.tables.specs.declared.Nodes.{Nodes}
-use Rattle.tables.specs.declared.Attributes.{Attributes}
-use Rattle.tables.specs.declared.Permissions.{Permissions}
+use Rattle.tables.specs.View.{Nodes}
+use Rattle.tables.specs.View.{Attributes}
+use Rattle.tables.specs.View.{Permissions}
 use Rattle.tables.specs.View.{view_value, view_grant, node_row, NodeSound, AttributeSound, PermissionSound, view_nodes, nodes_of, NodesSound, view_attributes, attributes_of, AttributesSound, view_permissions, permissions_of, PermissionsSound, DossierFits, Fits}
 use Rattle.tables.proofs.Rows.{value_there, view_nodes_lem, view_attributes_lem, view_permissions_lem}
 use Rattle.roundtrip.proofs.Orders.{attribute_order, lt_named, named_order, row_order}

@@ -7,8 +7,8 @@ use lib.Dec.{T}
 use Rattle.model.specs.Things as things
 use Rattle.model.specs.Refusals.{Request, Found, among}
 use Rattle.model.specs.Run as run
-use Rattle.tables.specs.declared.Attributes.{Attributes}
-use Rattle.tables.specs.declared.Permissions.{Permissions}
+use Rattle.tables.specs.View.{Attributes}
+use Rattle.tables.specs.View.{Permissions}
 use Rattle.tables.specs.declared.Dossier.{Dossier}
 use Rattle.tables.specs.View.{view_dossier, dossier_of, DossierSound}
 use Rattle.state.proofs.Sessions.{dossier_same}

@@ -21,8 +21,8 @@ use Rattle.model.specs.Image.{there}
 use Rattle.model.specs.Moves.{grant_row, node_at, attribute_at, attribute_object, object_at}
 use Rattle.model.specs.Sound.{Sound, SoundSingle, SoundClipboard}
 use Rattle.roundtrip.proofs.Checks.{there_map}
-use Rattle.tables.specs.declared.Attributes.{Attributes}
-use Rattle.tables.specs.declared.Permissions.{Permissions}
+use Rattle.tables.specs.View.{Attributes}
+use Rattle.tables.specs.View.{Permissions}
 use Rattle.tables.specs.declared.Clipboard.{Clipboard}
 use Rattle.tables.specs.View.{view_attribute, attributes_of, no_attribute, view_permissions, permissions_of, PermissionsSound, clipboard_of, ClipboardSound}
 use Rattle.tables.proofs.Rows.{view_attribute_lem, view_permissions_lem}

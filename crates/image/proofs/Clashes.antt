@@ -23,7 +23,7 @@ use Rattle.model.specs.Things.{Row}
 use Rattle.model.specs.Decide.{clash, clash_any}
 use Rattle.model.specs.Moves.{permissions_in}
 use Rattle.tables.specs.declared.Permission.{Permission}
-use Rattle.tables.specs.declared.Permissions.{Permissions}
+use Rattle.tables.specs.View.{Permissions}
 use Rattle.tables.specs.View.{view_grant, view_permission, view_permissions, PermissionsSound, no_permission}
 use Rattle.tables.specs.Places.{before_object, of_permission, permission_place}
 use Rattle.tables.proofs.Asked.{permissions_row}

@@ -16,8 +16,8 @@ use Rattle.path.proofs.Structs.{path_valid}
 use Rattle.model.specs.Things as things
 use Rattle.model.specs.Moves.{owner_in, attribute_in}
 use Rattle.model.specs.Image.{there}
-use Rattle.tables.specs.declared.Nodes.{Nodes}
-use Rattle.tables.specs.declared.Attributes.{Attributes}
+use Rattle.tables.specs.View.{Nodes}
+use Rattle.tables.specs.View.{Attributes}
 use Rattle.tables.specs.View.{AtPath, Fits, view_nodes, nodes_of, NodesSound, view_attributes, attributes_of, AttributesSound}
 use Rattle.tables.proofs.Rows.{view_nodes_lem, nodes_held, view_attributes_lem}
 use Rattle.tables.proofs.Tables.{nodes_count, attributes_count}

@@ -27,9 +27,9 @@ use Rattle.std.proofs.Common.{Some}
 use Rattle.tables.specs.declared.Node.{Node}
 use Rattle.tables.specs.declared.Attribute.{Attribute}
 use Rattle.tables.specs.declared.Permission.{Permission}
-use Rattle.tables.specs.declared.Nodes.{Nodes}
-use Rattle.tables.specs.declared.Attributes.{Attributes}
-use Rattle.tables.specs.declared.Permissions.{Permissions}
+use Rattle.tables.specs.View.{Nodes}
+use Rattle.tables.specs.View.{Attributes}
+use Rattle.tables.specs.View.{Permissions}
 use Rattle.tables.specs.View.{view_nodes, nodes_with, nodes_of, view_attributes, attributes_with, attributes_of, no_attribute, view_permissions, permissions_with, permissions_of, view_grant}
 use Rattle.tables.specs.Places.{Object, before_object, of_attribute, of_permission}
 use Rattle.tables.proofs.Rows.{view_nodes_lem, view_attributes_lem, view_permissions_lem}

@@ -11,9 +11,9 @@ use Rattle.model.specs.Things.{Row}
 use Rattle.tables.specs.declared.Node.{Node}
 use Rattle.tables.specs.declared.Attribute.{Attribute}
 use Rattle.tables.specs.declared.Permission.{Permission}
-use Rattle.tables.specs.declared.Nodes.{Nodes}
-use Rattle.tables.specs.declared.Attributes.{Attributes}
-use Rattle.tables.specs.declared.Permissions.{Permissions}
+use Rattle.tables.specs.View.{Nodes}
+use Rattle.tables.specs.View.{Attributes}
+use Rattle.tables.specs.View.{Permissions}
 use Rattle.tables.specs.View.{node_of, attribute_of, permission_of, blank_node, blank_attribute, blank_permission, view_nodes, nodes_with, nodes_of, NodesSound, view_attributes, attributes_with, attributes_of, AttributesSound, view_permissions, permissions_with, permissions_of, PermissionsSound}
 use Rattle.tables.proofs.Tables.{nodes_same, attributes_same, permissions_same}
 

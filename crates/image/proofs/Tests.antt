@@ -21,7 +21,7 @@ use Rattle.model.specs.Things.{Row}
 use Rattle.model.specs.Moves.{at, attribute_in, names_in}
 use Rattle.model.specs.Refusals.{is_root}
 use Rattle.model.specs.Image.{node_fits, attribute_fits, left, there}
-use Rattle.tables.specs.declared.Attributes.{Attributes}
+use Rattle.tables.specs.View.{Attributes}
 use Rattle.tables.specs.View.{view_attributes, AttributesSound, no_attribute}
 use Rattle.tables.specs.Places.{before_object, of_attribute}
 use Rattle.tables.proofs.Asked.{attribute_hit}

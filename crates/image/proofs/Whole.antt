@@ -12,9 +12,9 @@ use Rattle.laws.specs.Slots.{pick}
 use Rattle.path.proofs.Structs.{no}
 use Rattle.model.specs.Image.{accept, records, bad, scan, no_records, load}
 use Rattle.roundtrip.proofs.Images.{bad_length}
-use Rattle.tables.specs.declared.Nodes.{Nodes}
-use Rattle.tables.specs.declared.Attributes.{Attributes}
-use Rattle.tables.specs.declared.Permissions.{Permissions}
+use Rattle.tables.specs.View.{Nodes}
+use Rattle.tables.specs.View.{Attributes}
+use Rattle.tables.specs.View.{Permissions}
 use Rattle.tables.proofs.Tables.{nodes_same, attributes_same, permissions_same}
 use Rattle.image.specs.declared.BadRecord.{BadRecord}
 use Rattle.image.specs.View.{loaded_of}

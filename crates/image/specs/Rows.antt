@@ -9,9 +9,9 @@ use Rattle.model.specs.Things.{Row}
 use Rattle.model.specs.Moves.{owner_in, attribute_in, names_in}
 use Rattle.model.specs.Image.{node_fits, attribute_fits, left, there}
 use Rattle.tables.specs.declared.Attribute.{Attribute}
-use Rattle.tables.specs.declared.Nodes.{Nodes}
-use Rattle.tables.specs.declared.Attributes.{Attributes}
-use Rattle.tables.specs.declared.Permissions.{Permissions}
+use Rattle.tables.specs.View.{Nodes}
+use Rattle.tables.specs.View.{Attributes}
+use Rattle.tables.specs.View.{Permissions}
 use Rattle.tables.specs.View.{view_nodes, NodesSound, view_attributes, AttributesSound, view_permissions, PermissionsSound}
 use Rattle.tables.specs.Places.{before_object}
 use Rattle.parse.specs.declared.Record.{Record}

@@ -21,7 +21,7 @@ use Rattle.path.specs.View.{steps}
 use Rattle.model.specs.Things.{Row}
 use Rattle.model.specs.Moves.{called, head, at, owner_in, same_permission, holds}
 use Rattle.tables.specs.declared.Node.{Node}
-use Rattle.tables.specs.declared.Nodes.{Nodes}
+use Rattle.tables.specs.View.{Nodes}
 use Rattle.tables.specs.Places.{place_of}
 use Rattle.tables.specs.declared.Attribute.{Attribute}
 use Rattle.tables.specs.declared.Permission.{Permission}

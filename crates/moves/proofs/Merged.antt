@@ -43,11 +43,11 @@ module _ {P : Type 0} (lt_p : P → P → Bool) (oP : StrictOrder lt_p) where
       go p p' d d' (inr h) = lex2_right before address_order p p' (lt_p a.1 a'.1) (some-injective p p' (sym d ∙ ap f h.0 ∙ d')) h.1
 
   -- a moved table is in order
-  carried_sorted : (f : Address → Option Address) → Monotone before before f → {l : List (Row P)} → Sorted (lt_pair before lt_p) l → Sorted (lt_pair before lt_p) (carried f l)
+  pub carried_sorted : (f : Address → Option Address) → Monotone before before f → {l : List (Row P)} → Sorted (lt_pair before lt_p) l → Sorted (lt_pair before lt_p) (carried f l)
   carried_sorted f m s = move_sorted (lt_pair before lt_p) (lt_pair before lt_p) (carry f) (carry_mono f m) s
 
   -- rows of different paths compare as the paths do
-  row_lt : (x y : Row P) → (x.0 ≡ y.0 → ⊥) → lt_pair before lt_p x y ≡ before x.0 y.0
+  pub row_lt : (x y : Row P) → (x.0 ≡ y.0 → ⊥) → lt_pair before lt_p x y ≡ before x.0 y.0
   row_lt x y n = go (before x.0 y.0) (before y.0 x.0) (address_order.conn x.0 y.0)
     where
       go : (b c : Bool) → (T (not b) → T (not c) → x.0 ≡ y.0) → lex b c (lt_p x.1 y.1) ≡ b
@@ -56,7 +56,7 @@ module _ {P : Type 0} (lt_p : P → P → Bool) (oP : StrictOrder lt_p) where
       go false false f = absurd (n (f tt tt))
 
 -- the path of a row that was moved by a function of paths
-carried_path : {P : Type 0} (f : Address → Address) (z : Row P) (l : List (Row P)) → z ∈ carried (λ p. some (f p)) l → (p : Address) × (z.0 ≡ f p)
+pub carried_path : {P : Type 0} (f : Address → Address) (z : Row P) (l : List (Row P)) → z ∈ carried (λ p. some (f p)) l → (p : Address) × (z.0 ≡ f p)
 carried_path f z l h = let w = move_back (carry (λ p. some (f p))) z l h in
     (w.0.0, ap (λ r. r.0) (sym (some-injective (f w.0.0, w.0.1) z w.2)))
 
@@ -68,7 +68,7 @@ ups : {P : Type 0} (q : Address) (l : List (Row P)) → All (λ r. T (valid r.0)
 ups q [] h = tt
 ups q (x ∷ l) h = ((path_of x.0, record { model = x.0; same = refl; fits = h.0 }, ap (up q) (sym (view_path x.0))), ups q l h.1)
 
-moved_length : {P : Type 0} (f : Address → Address) (l : List (Row P)) → length (carried (λ p. some (f p)) l) ≡ length l
+pub moved_length : {P : Type 0} (f : Address → Address) (l : List (Row P)) → length (carried (λ p. some (f p)) l) ≡ length l
 moved_length f [] = refl
 moved_length f (x ∷ l) = ap suc (moved_length f l)
 

@@ -1,6 +1,7 @@
 -- What the changing functions ask of their tables: room, and that what is put in is not there yet.
-use Rattle.std.specs.Prelude.{◌≡◌, ◌&&◌, List, ℕ, ◌+◌, ◌≤◌, T, eqb, length}
-use Rattle.std.proofs.Math.Option.{none}
+use Rattle.std.specs.Prelude.{◌≡◌, ◌&&◌, List, [], ℕ, ◌+◌, ◌≤◌, T, eqb, length}
+use Rattle.std.proofs.Math.Option.{Option, none, some}
+use Rattle.laws.specs.Slots.{pick}
 use Rattle.laws.specs.Sorted.{◌∈◌}
 use Rattle.path.specs.Address.{Address, same}
 use Rattle.model.specs.Things.{Attribute, Permission, Row}
@@ -31,6 +32,10 @@ grant_in r = r.1.1
 -- the same permission for the name at p
 abbrev pub renamed : Address → ℕ → Row (ℕ × Permission) → Row (ℕ × Permission)
 renamed p n r = grant_row p n (grant_in r)
+
+-- the permission with the empty path, if it is for the object of that name at p
+abbrev pub held_grant : Address → ℕ → Row (ℕ × Permission) → Option (Row (ℕ × Permission))
+held_grant p n r = pick (same r.0 p && eqb r.1.0 n) (some (grant_row [] n (grant_in r))) none
 
 abbrev pub OneObject : List (Row (ℕ × Permission)) → Type 0
 OneObject l = (r s : Row (ℕ × Permission)) → r ∈ l → s ∈ l → (r.0 ≡ s.0) × (r.1.0 ≡ s.1.0)

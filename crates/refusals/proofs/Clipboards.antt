@@ -16,7 +16,7 @@ use Rattle.model.specs.Things.{Row}
 use Rattle.model.specs.Moves.{deepest, grant_row}
 use Rattle.model.specs.Refusals.{Cached}
 use Rattle.model.specs.Sound.{SoundClipboard}
-use Rattle.tables.specs.declared.Nodes.{Nodes}
+use Rattle.tables.specs.View.{Nodes}
 use Rattle.tables.specs.declared.Clipboard.{Clipboard}
 use Rattle.tables.specs.View.{Fits, nodes_of, view_nodes, NodesSound, permissions_of, view_dossier, DossierFits, clipboard_of, view_clipboard, ClipboardSound}
 use Rattle.tables.proofs.Parts.{dossier_fits}

@@ -6,8 +6,8 @@ use Rattle.path.specs.View.{asked}
 use Rattle.model.specs.Things as things
 use Rattle.model.specs.Moves.{attribute_at}
 use Rattle.model.specs.Run as run
-use Rattle.tables.specs.declared.Attributes.{Attributes}
-use Rattle.tables.specs.declared.Permissions.{Permissions}
+use Rattle.tables.specs.View.{Attributes}
+use Rattle.tables.specs.View.{Permissions}
 use Rattle.tables.specs.declared.Dossier.{Dossier}
 use Rattle.tables.specs.declared.Clipboard.{Clipboard}
 use Rattle.tables.specs.View.{view_dossier, dossier_of, DossierSound, view_clipboard, clipboard_of, ClipboardSound}

@@ -18,9 +18,9 @@ use Rattle.path.proofs.Laws.{address_order, same_self, same_true}
 use Rattle.model.specs.Things as things
 use Rattle.model.specs.Things.{Row}
 use Rattle.model.specs.Moves.{at, attribute_in, permissions_in}
-use Rattle.tables.specs.declared.Nodes.{Nodes}
-use Rattle.tables.specs.declared.Attributes.{Attributes}
-use Rattle.tables.specs.declared.Permissions.{Permissions}
+use Rattle.tables.specs.View.{Nodes}
+use Rattle.tables.specs.View.{Attributes}
+use Rattle.tables.specs.View.{Permissions}
 use Rattle.tables.specs.View.{view_node, view_nodes, nodes_of, NodesSound, view_attribute, view_attributes, attributes_of, AttributesSound, view_permission, view_permissions, permissions_of, PermissionsSound, Fits}
 use Rattle.tables.specs.Places.{Object, before_object, of_attribute, of_permission}
 use Rattle.tables.proofs.Asked.{attribute_miss, permissions_miss}

@@ -18,9 +18,9 @@ use Rattle.tables.specs.declared.Value.TheVariants.{Whole, Reading}
 use Rattle.tables.specs.declared.Node.{Node}
 use Rattle.tables.specs.declared.Attribute.{Attribute}
 use Rattle.tables.specs.declared.Permission.{Permission}
-use Rattle.tables.specs.declared.Nodes.{Nodes}
-use Rattle.tables.specs.declared.Attributes.{Attributes}
-use Rattle.tables.specs.declared.Permissions.{Permissions}
+use Rattle.tables.specs.View.{Nodes}
+use Rattle.tables.specs.View.{Attributes}
+use Rattle.tables.specs.View.{Permissions}
 use Rattle.tables.specs.View.{AtPath, blank_path, view_value, value_of, view_node, node_of, view_attribute, attribute_of, view_permission, permission_of, NodeSound, AttributeSound, PermissionSound, blank_node, blank_attribute, blank_permission, view_nodes, nodes_of, NodesSound, view_attributes, attributes_of, AttributesSound, view_permissions, permissions_of, PermissionsSound, view_dossier, dossier_of, view_single, view_clipboard, clipboard_of, Fits}
 
 -- ---- a blank row's path is the root's

@@ -8,9 +8,9 @@ use lib.ListN.{length, take}
 use Rattle.laws.specs.Sorted.{nil, cons}
 use Rattle.laws.proofs.Fill.{Held, held_seen, is_same}
 use Rattle.model.specs.Things as things
-use Rattle.tables.specs.declared.Nodes.{Nodes}
-use Rattle.tables.specs.declared.Attributes.{Attributes}
-use Rattle.tables.specs.declared.Permissions.{Permissions}
+use Rattle.tables.specs.View.{Nodes}
+use Rattle.tables.specs.View.{Attributes}
+use Rattle.tables.specs.View.{Permissions}
 use Rattle.tables.specs.View.{AtPath, view_node, node_of, view_nodes, nodes_of, NodesSound, blank_node, view_attribute, attribute_of, view_attributes, attributes_of, AttributesSound, blank_attribute, view_permission, permission_of, view_permissions, permissions_of, PermissionsSound, blank_permission, Fits}
 use Rattle.tables.proofs.Rows.{view_node_lem, nodes_held, view_nodes_lem, view_attribute_lem, attributes_held, view_attributes_lem, view_permission_lem, permissions_held, view_permissions_lem}
 

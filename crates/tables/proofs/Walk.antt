@@ -15,7 +15,7 @@ use Rattle.path.specs.Address.{Address, same}
 use Rattle.path.specs.View.{steps}
 use Rattle.model.specs.Things as things
 use Rattle.model.specs.Moves.{permissions_in}
-use Rattle.tables.specs.declared.Permissions.{Permissions}
+use Rattle.tables.specs.View.{Permissions}
 use Rattle.tables.specs.View.{view_grant, view_permission, view_permissions, PermissionsSound, no_permission}
 use Rattle.tables.specs.Places.{permission_place}
 use Rattle.tables.proofs.Asked.{permissions_row}

@@ -17,9 +17,7 @@ use Rattle.tables.specs.declared.Node.{Node}
 use Rattle.tables.specs.declared.Attribute.{Attribute}
 use Rattle.tables.specs.declared.Grant.{Grant}
 use Rattle.tables.specs.declared.Permission.{Permission}
-use Rattle.tables.specs.declared.Nodes.{Nodes}
-use Rattle.tables.specs.declared.Attributes.{Attributes}
-use Rattle.tables.specs.declared.Permissions.{Permissions}
+use Rattle.tables.specs.declared.Table.{Table}
 use Rattle.tables.specs.declared.Dossier.{Dossier}
 use Rattle.tables.specs.declared.Clipboard.{Clipboard}
 use Rattle.tables.specs.declared.Found.{Found}
@@ -127,6 +125,15 @@ abbrev pub no_permission : Permission
 no_permission = record { path = no_path; name = 0; grant = blank_grant }
 
 -- ---- tables
+abbrev pub Nodes : Type 0
+Nodes = Table Node 64
+
+abbrev pub Attributes : Type 0
+Attributes = Table Attribute 256
+
+abbrev pub Permissions : Type 0
+Permissions = Table Permission 128
+
 -- what a table must be to be held: so many rows at most, each at a path, in strict order
 pub record Fits {P : Type 0} (lt : Row P → Row P → Bool) (n : ℕ) (l : List (Row P)) : Type 0 where
   pub room : length l ≤ n

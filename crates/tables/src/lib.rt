@@ -72,23 +72,18 @@ pub struct Permission {
     pub grant: Grant,
 }
 
+// Rows in order, so many as count says, and blank ones behind them.
 #[derive(Clone, Copy)]
-pub struct Nodes {
-    pub rows: [Node; 64],
+pub struct Table<R, const N: usize> {
+    pub rows: [R; N],
     pub count: usize,
 }
 
-#[derive(Clone, Copy)]
-pub struct Attributes {
-    pub rows: [Attribute; 256],
-    pub count: usize,
-}
+pub type Nodes = Table<Node, 64>;
 
-#[derive(Clone, Copy)]
-pub struct Permissions {
-    pub rows: [Permission; 128],
-    pub count: usize,
-}
+pub type Attributes = Table<Attribute, 256>;
+
+pub type Permissions = Table<Permission, 128>;
 
 #[derive(Clone, Copy)]
 pub struct Dossier {

@@ -14,10 +14,10 @@ use Rattle.attributes.proofs.one.Goals as goal
 
 pub insert-requires : goal.insert-requires
 insert-requires c =
-    let none = attributes_none c.no_attributes-none.ensures in
-    let e = attributes_count c.no_attributes-none.result none.0 in
+    let none = attributes_none c.no_attributes.ensures in
+    let e = attributes_count c.no_attributes.result none.0 in
     let f = ap length none.1 in (
-      record { model = ([], (view_attribute c.args.a).1); same = c.placed-b.ensures ∙ attribute_at_lem c.args.a [] c.root-top.ensures; fits = tt },
+      record { model = ([], (view_attribute c.args.a).1); same = attribute_at_lem c.args.a [] c.root.ensures; fits = tt },
       none.0,
       omega arith,
       ap (attribute_in _ _) none.1,
@@ -25,6 +25,6 @@ insert-requires c =
 
 pub returns : goal.returns
 returns c =
-    let b = c.placed-b.ensures ∙ attribute_at_lem c.args.a [] c.root-top.ensures in
+    let b = attribute_at_lem c.args.a [] c.root.ensures in
     c.insert.ensures
-    ∙ ap₂ (λ q l. attributes_of (insert before_attribute q l)) (ap view_attribute b ∙ view_attribute_lem ([], (view_attribute c.args.a).1)) (attributes_none c.no_attributes-none.ensures).1
+    ∙ ap₂ (λ q l. attributes_of (insert before_attribute q l)) (ap view_attribute b ∙ view_attribute_lem ([], (view_attribute c.args.a).1)) (attributes_none c.no_attributes.ensures).1

@@ -17,10 +17,10 @@ insert-requires c =
     let w = sym (value_there a.value) in (
       record {
         model = (steps c.args.p, record { name = c.args.name; owner = a.owner; value = view_value a.value });
-        same = c.renamed-b.ensures ∙ (λ i. record { path = e i; name = c.args.name; owner = a.owner; value = w i });
+        same = c.renamed.ensures ∙ (λ i. record { path = e i; name = c.args.name; owner = a.owner; value = w i });
         fits = path_valid c.requires.1;
       },
       c.requires.0,
       c.requires.2,
-      subst (λ (z : Attribute). attribute_in (steps z.path) z.name (view_attributes c.args.t) ≡ none) (sym c.renamed-b.ensures) c.requires.3,
+      subst (λ (z : Attribute). attribute_in (steps z.path) z.name (view_attributes c.args.t) ≡ none) (sym c.renamed.ensures) c.requires.3,
     )

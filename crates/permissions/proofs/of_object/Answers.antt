@@ -1,59 +1,15 @@
--- `permissions::of_object` meets its contract: one pass in place: the rows for the object, at the root's path; then the slots that the rows left are blanked. Assumes nothing.
-use borrow.Author.Rules.{rules}
-use mathlib.Core.Path.{ap, sym, ◌∙◌}
-use mathlib.Core.List.{[], map}
-use native.Mathlib.Omega.{arith}
-use lib.ListN.{get_or}
-use Rattle.laws.proofs.Fill.{held_room, row_end}
-use Rattle.laws.proofs.Inplace.{packs, pack_each, pack_next, pack, pack_past, clear, packed, held_length}
+-- `permissions::of_object` meets its contract: the permissions for one object, with the empty path. Assumes nothing.
+use Rattle.std.proofs.Common.{rules}
+use mathlib.Core.Path.{◌≡◌, ap, ◌∙◌}
+use Rattle.laws.specs.Sorted.{move}
 use Rattle.path.specs.View.{steps}
-use Rattle.model.specs.Moves.{grant_row, permissions_in}
-use Rattle.tables.specs.View.{view_permission, permission_of, permissions_of, permissions_with, blank_permission, no_permission}
-use Rattle.tables.proofs.Rows.{permissions_held}
-use Rattle.permissions.proofs.Stored.{granted_at}
-use Rattle.permissions.proofs.Objects.{object_here, object_other}
+use Rattle.tables.specs.View.{view_permissions, permissions_of}
+use Rattle.moves.specs.Room.{held_grant}
+use Rattle.permissions.proofs.Objects.{held_list}
 use Rattle.permissions.proofs.of_object.Goals as goal
 
-pub loop-i-init : goal.loop-i-init
-unfolding permissions_of
-loop-i-init c =
-    let h = permissions_held c.args.t c.requires.0 in
-    (search rules, search rules, held_room _ _ _ _ _ _ h, packs permissions_with permission_of 128 blank_permission _ _ (held_length h))
-
-pub is_at-requires : goal.is_at-requires
-is_at-requires c =
-    (pack_each c.loop-i.invariant.3 (permissions_held c.args.t c.requires.0) no_permission c.loop-i-test.true, c.requires.1)
-
-pub loop-i-preserved-then-is_at : goal.loop-i-preserved-then-is_at
-loop-i-preserved-then-is_at c =
-    let l = c.loop-i in
-    let x = get_or l.out.rows l.i no_permission in
-    let next = pack_next l.invariant.3 (permissions_held c.args.t c.requires.0) no_permission c.loop-i-test.true view_permission in
-    let here = sym c.is_at.ensures ∙ c.if-is_at.true in (
-      search rules,
-      search rules,
-      search rules,
-      pack l.invariant.3 _ _ _ l.invariant.1 (omega arith) (ap (map (grant_row [] c.args.name)) (object_here (steps c.args.p) c.args.name (view_permission x) next here))
-          (c.granted-b.ensures ∙ granted_at x c.args.name [] c.root-top.ensures),
-    )
-
-pub loop-i-preserved : goal.loop-i-preserved
-loop-i-preserved c =
-    let l = c.loop-i in
-    let x = get_or l.out.rows l.i no_permission in
-    let next = pack_next l.invariant.3 (permissions_held c.args.t c.requires.0) no_permission c.loop-i-test.true view_permission in
-    let other = sym c.is_at.ensures ∙ c.if-is_at.false in
-    (search rules, search rules, search rules, pack_past l.invariant.3 (ap (map (grant_row [] c.args.name)) (object_other (steps c.args.p) c.args.name (view_permission x) next other)))
-
-pub loop-k-preserved : goal.loop-k-preserved
-loop-k-preserved c =
-    (search rules, search rules, search rules, clear c.loop-k.invariant.3 _ c.blank_permission-blank.ensures c.loop-k-test.true c.loop-k.invariant.1)
-
 pub returns : goal.returns
+unfolding permissions_of
 returns c =
-    let l = c.loop-i in
-    let m = c.loop-k in
-    ap (permissions_with m.out.rows) m.invariant.2
-    ∙ packed (permissions_held c.args.t c.requires.0) l.invariant.3
-    (ap (λ z. map (grant_row [] c.args.name) (permissions_in (steps c.args.p) c.args.name z)) (row_end view_permission c.args.t.rows c.args.t.count l.i c.loop-i-test.false))
-    l.invariant.0 m.invariant.3 (omega arith)
+    let e : c.moved.result ≡ permissions_of (move (held_grant (steps c.args.p) c.args.name) (view_permissions c.args.t)) = search rules in
+    e ∙ ap permissions_of (held_list (steps c.args.p) c.args.name (view_permissions c.args.t))

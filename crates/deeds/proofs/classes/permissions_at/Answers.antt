@@ -5,7 +5,7 @@ use native.Mathlib.Omega.{arith}
 use Rattle.model.specs.Things as things
 use Rattle.model.specs.Refusals.{Request}
 use Rattle.model.specs.Run as run
-use Rattle.tables.specs.declared.Permissions.{Permissions}
+use Rattle.tables.specs.View.{Permissions}
 use Rattle.tables.specs.View.{view_dossier, dossier_of}
 use Rattle.tables.proofs.Parts.{dossier_fits, permissions_sound}
 use Rattle.tables.proofs.Tables.{permissions_count}
