@@ -14,7 +14,7 @@ use Rattle.laws.specs.Sorted.{◌∈◌, push}
 use Rattle.path.specs.Address.{Address, valid, before, under, higher, up, on, in_depth}
 use Rattle.path.specs.View.{steps, path_of, moved_of, key_of, PathSound}
 use Rattle.path.specs.declared.Path.{Path}
-use Rattle.path.specs.declared.Moved.{Moved}
+use Rattle.std.specs.Prelude.{Option, Some}
 use Rattle.path.proofs.Structs.{no, path_valid, valid_short, valid_small, in_depth_fits}
 use Rattle.path.proofs.Number.{Digits, key_order}
 use Rattle.model.specs.Things.{Row}
@@ -89,8 +89,8 @@ module _ {q a b p u : Path} {x y : ℕ} (sq : PathSound q) (sa : PathSound a) (s
   up_first h = sym compared ∙ le-ltb x y h
 
 -- ---- a path put below q, where that is not too deep
-pub moved_on : {m : Moved} (q p : Address) → m ≡ moved_of (in_depth (on q p)) → length q + length p ≤ 6 → m.path ≡ path_of (on q p)
-moved_on q p e h = ap (λ (x : Moved). x.path) (e ∙ ap moved_of (in_depth_fits (on q p) (subst (λ n. n ≤ 6) (sym (length-append q p)) h)))
+pub moved_on : {m : Option Path} (q p : Address) → m ≡ moved_of (in_depth (on q p)) → length q + length p ≤ 6 → m ≡ Some (path_of (on q p))
+moved_on q p e h = e ∙ ap moved_of (in_depth_fits (on q p) (subst (λ n. n ≤ 6) (sym (length-append q p)) h))
 
 -- rows put below q, where none is too deep
 pub all_short : {P : Type 0} (q : Address) (l : List (Row P)) → ((r : Row P) → r ∈ l → length q + length r.0 ≤ 6) → carried (λ p. in_depth (on q p)) l ≡ below q l

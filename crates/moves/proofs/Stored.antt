@@ -1,23 +1,23 @@
 -- A pass over a table: where the path of a row went, and what is left to store. Assumes nothing.
 use mathlib.Core.Path.{◌≡◌, refl, sym, ap, ◌∙◌}
-use mathlib.Core.Bool.{true, false}
 use mathlib.Core.Option.{Option, none, some}
 use mathlib.Core.List.{List, ◌∷◌}
 use Rattle.path.specs.Address.{Address}
 use Rattle.path.specs.View.{path_of, moved_of}
-use Rattle.path.specs.declared.Moved.{Moved}
-use Rattle.path.proofs.Structs.{no}
+use Rattle.path.specs.declared.Path.{Path}
+use Rattle.std.specs.Prelude.{Some, None}
+use Rattle.std.proofs.lemmas.Option.{none-some, same_Some}
 use Rattle.model.specs.Things.{Row}
 use Rattle.model.specs.Moves.{carried}
 
 -- ---- a path that moved, or went
-pub moved_there : {m : Moved} (o : Option Address) → m ≡ moved_of o → m.there ≡ true → (p : Address) × (o ≡ some p) × (m.path ≡ path_of p)
-moved_there none e t = no (sym t ∙ ap (λ (x : Moved). x.there) e)
-moved_there (some p) e t = (p, refl, ap (λ (x : Moved). x.path) e)
+pub moved_there : {r : Path} (o : Option Address) → Some r ≡ moved_of o → (p : Address) × (o ≡ some p) × (r ≡ path_of p)
+moved_there none e = absurd (none-some _ (sym e))
+moved_there (some p) e = (p, refl, same_Some _ _ e)
 
-pub moved_gone : {m : Moved} (o : Option Address) → m ≡ moved_of o → m.there ≡ false → o ≡ none
-moved_gone none e t = refl
-moved_gone (some p) e t = no (sym (ap (λ (x : Moved). x.there) e) ∙ t)
+pub moved_gone : (o : Option Address) → None ≡ moved_of o → o ≡ none
+moved_gone none e = refl
+moved_gone (some p) e = absurd (none-some _ e)
 
 -- ---- what a pass has yet to store, by one row
 module _ {P : Type 0} (f : Address → Option Address) (x : Row P) {l l' : List (Row P)} (e : l ≡ x ∷ l') where

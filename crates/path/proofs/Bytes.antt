@@ -11,18 +11,20 @@ use lib.Dec.{T, eqb, leb, ltb}
 use lib.ListN.{length, take, drop, get_or, replicate, length-drop}
 use lib.Seq.{length-take-le, take_all, take-suc, take_at, drop-cons, get_or-take, get_or-drop}
 use mir.Facts.{and_yes, yes_and}
+use mir.Syntax.{w64}
 use borrow.Author.Tests.{ltb-true, ltb-false, le-leb, lt-leb, eq-eqb, ne_eqb}
+use Rattle.std.specs.Int.{to_be_bytes}
 use Rattle.laws.specs.Slots.{pick, slots, same_bytes}
 use Rattle.laws.proofs.Fill.{list_next, slots_length}
 use Rattle.laws.proofs.Same.{same_bytes_lem, bytes_same}
 use Rattle.path.specs.Address.{Address, valid, steps_good}
 use Rattle.path.specs.Bytes.{step_bytes, read_steps, step_fits}
-use Rattle.path.specs.Packed.{pack}
-use Rattle.path.specs.View.{path_of}
+use Rattle.path.specs.Packed.{pack, digits}
+use Rattle.path.specs.View.{steps, path_of, PathSound, digit_of}
 use Rattle.path.specs.declared.Path.{Path}
 use Rattle.path.proofs.Moves.{pick_yes, pick_some}
-use Rattle.path.proofs.Pack.{Small, small_append, small_front, pack_lt, pack_append, pack_shift}
-use Rattle.path.proofs.Structs.{path_is}
+use Rattle.path.proofs.Pack.{Small, small_append, small_front, pack_lt, pack_append, pack_shift, digits_pack}
+use Rattle.path.proofs.Structs.{path_is, facts}
 use Rattle.path.proofs.Number.{weight}
 
 -- ---- there and back
@@ -156,6 +158,21 @@ byte_read l (suc i) = slot_read l (6 - length l) i
 
 pub bytes_length : (l : Address) → length l ≤ 6 → length (step_bytes l) ≡ 7
 bytes_length l h = ap suc (slots_length 6 0 l h)
+
+small_blank : (n : ℕ) → Small (replicate n 0)
+small_blank zero = tt
+small_blank (suc n) = (omega arith, small_blank n)
+
+-- a number's last seven bytes, one by one
+pub key_bytes : (p : Path) → PathSound p → take 7 (drop 1 (to_be_bytes w64 p.key)) ≡ step_bytes (steps p)
+key_bytes p h =
+    let l = steps p in
+    let f = facts p h in
+    let s = f.short in
+    let e : p.key ≡ 0 * 256 ^ 7 + pack 7 (step_bytes l) = let a = f.packed in let b = pack_slots 6 l f.short in omega arith in
+    let z : p.key % 256 ≡ digit_of 6 p = omega arith in
+    ap (λ x. digit_of 0 p ∷ digit_of 1 p ∷ digit_of 2 p ∷ digit_of 3 p ∷ digit_of 4 p ∷ digit_of 5 p ∷ x ∷ []) z ∙ ap (digits 7 7) e
+    ∙ digits_pack (step_bytes l) 7 7 0 (omega arith, small_append l (replicate (6 - length l) 0) f.small (small_blank (6 - length l))) (bytes_length l f.short) (omega arith)
 
 -- ---- what the bytes are read as
 and_no : (a b : Bool) → (a && (false && b)) ≡ false

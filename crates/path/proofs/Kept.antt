@@ -2,6 +2,8 @@
 use mathlib.Core.Path.{◌≡◌, refl, sym, ap, subst}
 use mathlib.Core.Bool.{Bool, true, false, ◌&&◌}
 use mathlib.Core.Option.{none, some}
+use Rattle.std.specs.Prelude.{Some}
+use Rattle.std.proofs.lemmas.Option.{none-some, same_Some}
 use mathlib.Core.List.{[], ◌∷◌}
 use Prim.Native.Nat.{ℕ, zero, suc, ◌+◌, ◌-◌, ◌≤◌, ◌<◌}
 use native.Mathlib.Omega.{arith}
@@ -13,7 +15,6 @@ use Rattle.laws.specs.Slots.{pick}
 use Rattle.path.specs.Address.{Address, valid, steps_good, under, at_last, higher, lower, up, fall, down}
 use Rattle.path.specs.View.{steps, path_of, PathSound, moved_of}
 use Rattle.path.specs.declared.Path.{Path}
-use Rattle.path.specs.declared.Moved.{Moved}
 use Rattle.path.proofs.Laws.{up_length, fall_length}
 use Rattle.path.proofs.Parts.{good_small}
 use Rattle.path.proofs.Structs.{path_valid}
@@ -75,9 +76,9 @@ fall_valid q p u v =
 pub up_sound : (q : Path) {p r : Path} → PathSound p → ((k : ℕ) → length (steps q) ≡ suc k → get_or (steps p) k 0 < 32) → r ≡ path_of (up (steps q) (steps p)) → PathSound r
 up_sound q {p} h low e = record { model = up (steps q) (steps p); same = e; fits = up_valid (steps q) (steps p) (path_valid h) low }
 
-pub down_sound : {p q : Path} {m : Moved} → PathSound p → PathSound q → m ≡ moved_of (down (steps q) (steps p)) → PathSound m.path
-down_sound {p} {q} h g e = go (under (steps q) (steps p)) (ap (λ (x : Moved). x.path) e)
+pub down_sound : {p q r : Path} → PathSound p → PathSound q → Some r ≡ moved_of (down (steps q) (steps p)) → PathSound r
+down_sound {p} {q} {r} h g e = go (under (steps q) (steps p)) e
   where
-    go : (b : Bool) → {r : Path} → r ≡ (moved_of (pick b none (some (fall (steps q) (steps p))))).path → PathSound r
-    go true e = record { model = []; same = e; fits = tt }
-    go false e = record { model = fall (steps q) (steps p); same = e; fits = fall_valid (steps q) (steps p) (path_valid g) (path_valid h) }
+    go : (b : Bool) → Some r ≡ moved_of (pick b none (some (fall (steps q) (steps p)))) → PathSound r
+    go true e = absurd (none-some _ (sym e))
+    go false e = record { model = fall (steps q) (steps p); same = same_Some _ _ e; fits = fall_valid (steps q) (steps p) (path_valid g) (path_valid h) }

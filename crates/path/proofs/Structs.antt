@@ -2,14 +2,17 @@
 use mathlib.Core.Path.{◌≡◌, refl, sym, ap, ◌∙◌}
 use mathlib.Core.Bool.{Bool, true, false, ◌&&◌}
 use mathlib.Core.Option.{Option, none, some}
+use Rattle.std.specs.Prelude.{Some, None, IsTrue, ◌↔◌}
+use Rattle.std.specs.List.{All}
 use mathlib.Core.List.{List, [], ◌∷◌, ◌++◌}
 use Prim.Native.Nat.{ℕ, zero, suc, ◌+◌, ◌*◌, ◌-◌, ◌/◌, ◌%◌, ◌^◌, ◌≤◌, ◌<◌}
 use native.Mathlib.Omega.{arith}
 use lib.Arith.{digits_div, digits_mod}
-use lib.Dec.{T, ltb, leb, leb→le, ltb→lt}
+use lib.Dec.{T, ltb, leb, leb→le, le→leb, ltb→lt}
 use lib.Pow.{are_bytes}
 use lib.ListN.{length, take, replicate, length-append, length-replicate}
 use lib.Seq.{length-take-le, take-append-le}
+use mir.Facts.{yes_and}
 use borrow.Author.Tests.{eq-eqb, ne_eqb, le-ltb, lt-ltb, le-leb, lt-leb}
 use Rattle.laws.proofs.Fill.{is_fits}
 use Rattle.path.specs.Address.{Address, valid, steps_good, parent}
@@ -17,7 +20,6 @@ use Rattle.path.specs.Packed.{pack, digits, code, raise, decode, fits, number, a
 use Rattle.path.specs.View.{steps, asked, raw_of, path_of, PathSound, moved_of}
 use Rattle.path.specs.declared.Path.{Path}
 use Rattle.path.specs.declared.RawPath.{RawPath}
-use Rattle.path.specs.declared.Moved.{Moved}
 use Rattle.path.proofs.Moves.{is_true}
 use Rattle.path.proofs.Parts.{parent_good, parent_short}
 use Rattle.path.proofs.Pack.{Small, pack_lt, digits_pack}
@@ -144,6 +146,26 @@ asked_good p full h =
     let n = length-take-le p.len p.steps (omega arith) in
     ap valid (asked_steps p full h) ∙ rw (le-leb (length (take p.len p.steps)) 6 (omega arith))
 
+-- each step that is used is 1 to 32
+all_good : (l : List ℕ) → All (λ s. (1 ≤ s) × (s ≤ 32)) l → T (steps_good l)
+all_good [] h = tt
+all_good (x ∷ l) h =
+    let g = h 0 0 (omega arith) in
+    yes_and (leb 1 x && leb x 32) (steps_good l) (yes_and (leb 1 x) (leb x 32) (le→leb 1 x g.0) (le→leb x 32 g.1)) (all_good l (λ k d e. h (suc k) d (omega arith)))
+
+good_each : (l : List ℕ) → T (steps_good l) → All (λ s. (1 ≤ s) × (s ≤ 32)) l
+good_each [] t k d h = absurd (omega arith)
+good_each (x ∷ l) t zero d h = let a = both (leb 1 x) (leb x 32) (both (leb 1 x && leb x 32) (steps_good l) t).0 in (leb→le 1 x a.0, leb→le x 32 a.1)
+good_each (x ∷ l) t (suc k) d h = good_each l (both (leb 1 x && leb x 32) (steps_good l) t).1 k d (omega arith)
+
+pub good_all : (b : Bool) (l : List ℕ) → (IsTrue b ↔ All (λ s. (1 ≤ s) × (s ≤ 32)) l) → b ≡ steps_good l
+good_all true l w = sym (is_true (steps_good l) (all_good l (w.0 refl)))
+good_all false l w = go (steps_good l) refl
+  where
+    go : (b : Bool) → steps_good l ≡ b → false ≡ steps_good l
+    go true e = no (sym (w.1 (good_each l (rw e tt))))
+    go false e = sym e
+
 -- the bytes of a path ask for it
 take_digits : (n m j k : ℕ) → n ≤ m → take n (digits m j k) ≡ digits n j k
 take_digits zero m j k h = refl
@@ -168,11 +190,11 @@ pub valid_sound : (p : RawPath) {r : Path} → T (valid (asked p)) → r ≡ pat
 valid_sound p v e = record { model = asked p; same = e; fits = v }
 
 -- ---- the answers
-pub there : {p : Path} {b : Bool} {l : Address} (o : Option Address) → b ≡ true → p ≡ path_of l → o ≡ some l → ◌≡◌ {A = Moved} (record { there = b; path = p }) (moved_of o)
-there o t e f = (λ i. record { there = t i; path = e i }) ∙ ap moved_of (sym f)
+pub there : {p : Path} {l : Address} (o : Option Address) → p ≡ path_of l → o ≡ some l → Some p ≡ moved_of o
+there o e f = ap Some e ∙ ap moved_of (sym f)
 
-pub gone : {p : Path} {b : Bool} (o : Option Address) → b ≡ false → p ≡ path_of [] → o ≡ none → ◌≡◌ {A = Moved} (record { there = b; path = p }) (moved_of o)
-gone o t e f = (λ i. record { there = t i; path = e i }) ∙ ap moved_of (sym f)
+pub gone : (o : Option Address) → o ≡ none → None ≡ moved_of o
+gone o f = ap moved_of (sym f)
 
 -- ---- the parent of a path is a path
 pub parent_sound : {p r : Path} → PathSound p → r ≡ path_of (parent (steps p)) → PathSound r

@@ -1,12 +1,12 @@
 -- The structs of this crate and addresses: what a struct stands for, and the one struct that stands for an address.
-use Rattle.std.specs.Prelude.{true, false, [], ◌∷◌, ◌++◌, ℕ, ◌-◌, ◌/◌, ◌%◌, ◌^◌, T, take, replicate}
-use Rattle.std.proofs.Math.Option.{Option, none, some}
+use Rattle.std.specs.Prelude.{[], ◌∷◌, ◌++◌, ℕ, ◌-◌, ◌/◌, ◌%◌, ◌^◌, T, take, replicate, Option, Some, None}
+use Rattle.std.proofs.Math.Option as math
+use Rattle.std.proofs.Math.Option.{none, some}
 use Rattle.laws.specs.Slots.{Is}
 use Rattle.path.specs.Address.{Address, valid}
 use Rattle.path.specs.Packed.{number, address}
 use Rattle.path.specs.declared.Path.{Path}
 use Rattle.path.specs.declared.RawPath.{RawPath}
-use Rattle.path.specs.declared.Moved.{Moved}
 
 -- the address that the number is
 abbrev pub steps : Path → Address
@@ -23,10 +23,10 @@ path_of l = record { key = number l }
 abbrev pub PathSound : Path → Type 0
 PathSound p = Is path_of (λ l. T (valid l)) p
 
--- an address, or none with the root's path
-abbrev pub moved_of : Option Address → Moved
-moved_of none = record { there = false; path = path_of [] }
-moved_of (some p) = record { there = true; path = path_of p }
+-- an address as a path, or none
+abbrev pub moved_of : math.Option Address → Option Path
+moved_of none = None
+moved_of (some p) = Some (path_of p)
 
 -- a path's number: its order is the image order
 abbrev pub key_of : Path → ℕ

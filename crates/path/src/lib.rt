@@ -14,9 +14,9 @@ ghost use Rattle.path.specs.Bytes.{step_bytes, read_steps, step_fits};
 ghost use Rattle.path.specs.Packed.{pack};
 ghost use Rattle.path.specs.View.{steps, asked, path_of, PathSound, moved_of, key_of, digit_of, raw_of};
 
-#[derive(Clone, Copy)]
+#[derive(Clone, Copy, PartialEq, Eq, PartialOrd, Ord)]
 pub struct Path {
-    pub key: u64,
+    key: u64,
 }
 
 // A path as a host gives it: any bytes.
@@ -24,13 +24,6 @@ pub struct Path {
 pub struct RawPath {
     pub len: u8,
     pub steps: [u8; 6],
-}
-
-// A path, or none: `there` is false, and the path is the root's.
-#[derive(Clone, Copy)]
-pub struct Moved {
-    pub there: bool,
-    pub path: Path,
 }
 
 // What the length counts in the number: six digits below it are the steps.
@@ -45,19 +38,9 @@ pub fn is_valid(p: RawPath) -> bool
     if 6 < p.len {
         return false;
     }
-    let n = p.len as usize;
-    let mut i: usize = 0;
-    while i < n {
-        let s = p.steps[i];
-        if s < 1 {
-            return false;
-        }
-        if 32 < s {
-            return false;
-        }
-        i += 1;
-    }
-    true
+    p.steps[..p.len as usize]
+        .iter()
+        .all(|s| (1..=32).contains(s))
 }
 
 // The path that valid bytes are, its unused steps blank.
@@ -65,14 +48,10 @@ pub fn path_of(p: RawPath) -> Path
     requires { T (valid (asked p)) }
     ensures { result ≡ path_of (asked p) }
 {
-    let s = p.steps;
-    let len = p.len;
-    let n = len as usize;
-    let mut k = wide(len);
-    let mut i: usize = 0;
-    while i < n {
-        k = k * 256 + wide(s[i]);
-        i += 1;
+    let n = p.len as usize;
+    let mut k = u64::from(p.len);
+    for &s in &p.steps[..n] {
+        k = k * 256 + u64::from(s);
     }
     Path {
         key: k << (48 - 8 * n),
@@ -83,17 +62,10 @@ pub fn path_of(p: RawPath) -> Path
 pub fn raw_of(p: Path) -> RawPath
     ensures { result ≡ raw_of p }
 {
-    let s = [
-        digit(p, 1) as u8,
-        digit(p, 2) as u8,
-        digit(p, 3) as u8,
-        digit(p, 4) as u8,
-        digit(p, 5) as u8,
-        digit(p, 6) as u8,
-    ];
+    let [_, len, a, b, c, d, e, f] = p.key.to_be_bytes();
     RawPath {
-        len: digit(p, 0) as u8,
-        steps: s,
+        len,
+        steps: [a, b, c, d, e, f],
     }
 }
 
@@ -107,36 +79,25 @@ pub fn root() -> Path
 // ---- an image's bytes: the length and six steps, unused ones 0
 
 // The path that the seven bytes from at on are; none where they are no path.
-pub fn path_at(s: &[u8], at: usize) -> Moved
+pub fn path_at(s: &[u8], at: usize) -> Option<Path>
     requires { at + 7 ≤ length s.now }
     ensures { result ≡ moved_of (read_steps (take 7 (drop at s.now))) }
 {
     let len = s[at];
     if 6 < len {
-        return Moved {
-            there: false,
-            path: root(),
-        };
+        return None;
     }
     let first = at + 1;
     let n = len as usize;
-    let mut k = wide(len);
-    let mut i: usize = 0;
-    while i < 6 {
+    let mut k = u64::from(len);
+    for i in 0..6 {
         let x = s[first + i];
         if !step_fits(i, n, x) {
-            return Moved {
-                there: false,
-                path: root(),
-            };
+            return None;
         }
-        k = k * 256 + wide(x);
-        i += 1;
+        k = k * 256 + u64::from(x);
     }
-    Moved {
-        there: true,
-        path: Path { key: k },
-    }
+    Some(Path { key: k })
 }
 
 // Whether x may stand as step i, counted from 0, of a path of n steps.
@@ -151,27 +112,17 @@ pub fn put_path(out: &mut [u8], at: usize, p: Path)
     requires { PathSound p × (at + 7 ≤ length out.old) }
     ensures { out.new ≡ put out.old at (step_bytes (steps p)) }
 {
-    let mut k: usize = 0;
-    while k < 7 {
-        out[at + k] = digit(p, k) as u8;
-        k += 1;
-    }
+    out[at..at + 7].copy_from_slice(&p.key.to_be_bytes()[1..]);
 }
 
 // ---- the number's parts
 
-fn wide(x: u8) -> u64
-    ensures { (result ≡ x) × (result < 256) }
-{
-    x as u64
-}
-
 // Digit n of p: its length for 0, else step n, counted from 1; 0 where p has no such step.
-fn digit(p: Path, n: usize) -> u64
+fn digit(p: Path, n: usize) -> u8
     requires { n ≤ 6 }
-    ensures { (result ≡ digit_of n p) × (result < 256) × (PathSound p → result ≡ get_or (length (steps p) ∷ steps p) n 0) }
+    ensures { (result ≡ digit_of n p) × (PathSound p → result ≡ get_or (length (steps p) ∷ steps p) n 0) }
 {
-    (p.key >> (48 - 8 * n)) % 256
+    ((p.key >> (48 - 8 * n)) % 256) as u8
 }
 
 // The first n steps of p, as a number.
@@ -183,11 +134,11 @@ fn front(p: Path, n: usize) -> u64
 }
 
 // What s counts in the number as step n, counted from 1.
-fn placed(s: u64, n: usize) -> u64
-    requires { (s < 256) × (n ≤ 6) }
+fn placed(s: u8, n: usize) -> u64
+    requires { n ≤ 6 }
     ensures { result ≡ s * 256 ^ (6 - n) }
 {
-    s << (48 - 8 * n)
+    u64::from(s) << (48 - 8 * n)
 }
 
 // ---- questions
@@ -204,7 +155,7 @@ pub fn is_before(p: Path, q: Path) -> bool
     requires { PathSound p × PathSound q }
     ensures { result ≡ before (steps p) (steps q) }
 {
-    p.key < q.key
+    p < q
 }
 
 // Whether p and q are the same path.
@@ -212,7 +163,7 @@ pub fn is_same(p: Path, q: Path) -> bool
     requires { PathSound p × PathSound q }
     ensures { result ≡ same (steps p) (steps q) }
 {
-    p.key == q.key
+    p == q
 }
 
 // Whether p is at least as long as q, which is not the root, and agrees with it in all its steps but the last.
@@ -254,7 +205,7 @@ pub fn step_of(p: Path, i: usize) -> u8
     requires { PathSound p × (i < length (steps p)) }
     ensures { result ≡ get_or (steps p) i 0 }
 {
-    digit(p, i + 1) as u8
+    digit(p, i + 1)
 }
 
 // The last step of p, 0 for the root: the root's digit 0 is its length.
@@ -262,8 +213,7 @@ pub fn last_step(p: Path) -> u8
     requires { PathSound p }
     ensures { result ≡ last (steps p) }
 {
-    let n = size(p);
-    digit(p, n) as u8
+    digit(p, size(p))
 }
 
 // The path of the node above p, the root's for the root.
@@ -282,24 +232,18 @@ pub fn parent_of(p: Path) -> Path
 }
 
 // The path of child s of p; none where that is too deep.
-pub fn child_of(p: Path, s: u8) -> Moved
+pub fn child_of(p: Path, s: u8) -> Option<Path>
     requires { PathSound p }
     ensures { result ≡ moved_of (in_depth (child (steps p) s)) }
 {
     let k = size(p);
     if 6 <= k {
-        return Moved {
-            there: false,
-            path: root(),
-        };
+        return None;
     }
-    let more = placed(wide(s), k + 1);
-    Moved {
-        there: true,
-        path: Path {
-            key: p.key + STEPS + more,
-        },
-    }
+    let more = placed(s, k + 1);
+    Some(Path {
+        key: p.key + STEPS + more,
+    })
 }
 
 // ---- moves
@@ -339,62 +283,43 @@ pub fn path_fall(p: Path, q: Path) -> Path
 }
 
 // Where p stands after a delete at q; none for q itself and what is below it.
-pub fn path_down(p: Path, q: Path) -> Moved
+pub fn path_down(p: Path, q: Path) -> Option<Path>
     requires { PathSound p × PathSound q }
     ensures { result ≡ moved_of (down (steps q) (steps p)) }
 {
     if is_under(p, q) {
-        return Moved {
-            there: false,
-            path: root(),
-        };
+        return None;
     }
-    let r = path_fall(p, q);
-    Moved {
-        there: true,
-        path: r,
-    }
+    Some(path_fall(p, q))
 }
 
 // What is left of p when the prefix q is removed; none where p does not begin with q.
-pub fn path_off(p: Path, q: Path) -> Moved
+pub fn path_off(p: Path, q: Path) -> Option<Path>
     requires { PathSound p × PathSound q }
     ensures { result ≡ moved_of (off (steps q) (steps p)) }
 {
     if !is_under(p, q) {
-        return Moved {
-            there: false,
-            path: root(),
-        };
+        return None;
     }
     let k = size(q);
     let rest = p.key - q.key;
     let low = rest % STEPS;
-    Moved {
-        there: true,
-        path: Path {
-            key: rest - low + (low << (8 * k)),
-        },
-    }
+    Some(Path {
+        key: rest - low + (low << (8 * k)),
+    })
 }
 
 // p with the prefix q put before it; none where that is too deep.
-pub fn path_on(p: Path, q: Path) -> Moved
+pub fn path_on(p: Path, q: Path) -> Option<Path>
     requires { PathSound p × PathSound q }
     ensures { result ≡ moved_of (in_depth (on (steps q) (steps p))) }
 {
     let k = size(q);
     if 6 < size(p) + k {
-        return Moved {
-            there: false,
-            path: root(),
-        };
+        return None;
     }
     let low = p.key % STEPS;
-    Moved {
-        there: true,
-        path: Path {
-            key: q.key + (p.key - low) + (low >> (8 * k)),
-        },
-    }
+    Some(Path {
+        key: q.key + (p.key - low) + (low >> (8 * k)),
+    })
 }

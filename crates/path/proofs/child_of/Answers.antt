@@ -1,7 +1,6 @@
 -- `path::child_of` meets its contract: a digit more, and the length is one more. Assumes nothing.
-use mathlib.Core.Path.{refl, ap, ◌∙◌}
 use mathlib.Core.List.{[], ◌∷◌}
-use Prim.Native.Nat.{◌+◌, ◌-◌, ◌*◌, ◌^◌}
+use Prim.Native.Nat.{◌+◌}
 use native.Mathlib.Omega.{arith}
 use lib.ListN.{length-append}
 use Rattle.path.specs.Address.{child, in_depth}
@@ -19,8 +18,7 @@ pub overflow_add-result-2 : goal.overflow_add-result-2
 overflow_add-result-2 c =
     let b = (facts c.args.p c.requires).bound in
     let k = c.size-k.result in
-    let w = c.wide in
-    let h = placed_small w.result (k + 1) w.ensures.1 in
+    let h = placed_small c.args.s (k + 1) c.ranges.s.fits in
     let e = c.placed-more.ensures in omega arith
 
 pub returns : goal.returns
@@ -28,10 +26,6 @@ returns c =
     let l = child (steps c.args.p) c.args.s in
     let k = c.size-k in
     let e = k.ensures.0 in
-    let w = c.wide.ensures in
-    let x = w.0 in
-    let y = w.1 in
     let n = length-append (steps c.args.p) (c.args.s ∷ []) in
-    there (in_depth l) refl
-    (child_path c.args.p c.requires _ e c.args.s _ (omega arith) (omega arith) (c.placed-more.ensures ∙ ap (λ z. z * 256 ^ (6 - (k.result + 1))) x))
+    there (in_depth l) (child_path c.args.p c.requires _ e c.args.s _ (omega arith) c.ranges.s.fits c.placed-more.ensures)
     (in_depth_fits l (omega arith))

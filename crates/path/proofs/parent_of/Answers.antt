@@ -8,12 +8,12 @@ returns-then-k-eq0 c = let k = c.size-k.ensures.0 in root_is c.args.p c.requires
 
 pub overflow_sub-result : goal.overflow_sub-result
 overflow_sub-result c =
-    let k = parent_key c.args.p c.requires _ c.size-k.ensures.0 (omega arith) _ _ (c.digit.ensures.2 c.requires) c.placed-less.ensures in omega arith
+    let k = parent_key c.args.p c.requires _ c.size-k.ensures.0 (omega arith) _ _ (c.digit.ensures.1 c.requires) c.placed-less.ensures in omega arith
 
 pub overflow_sub-result-2 : goal.overflow_sub-result-2
 overflow_sub-result-2 c =
-    let k = parent_key c.args.p c.requires _ c.size-k.ensures.0 (omega arith) _ _ (c.digit.ensures.2 c.requires) c.placed-less.ensures in omega arith
+    let k = parent_key c.args.p c.requires _ c.size-k.ensures.0 (omega arith) _ _ (c.digit.ensures.1 c.requires) c.placed-less.ensures in omega arith
 
 pub returns : goal.returns
 returns c =
-    parent_path c.args.p c.requires _ c.size-k.ensures.0 (omega arith) _ _ (c.digit.ensures.2 c.requires) c.placed-less.ensures
+    parent_path c.args.p c.requires _ c.size-k.ensures.0 (omega arith) _ _ (c.digit.ensures.1 c.requires) c.placed-less.ensures

@@ -3,7 +3,7 @@ use borrow.Author.Rules.{rules}
 use borrow.Author.Tests.{not-true, not-false}
 use mathlib.Core.Bool.{true, false, ◌&&◌}
 use mathlib.Core.List.{◌∷◌}
-use mathlib.Core.Path.{◌≡◌, refl, sym, ap, subst, ◌∙◌}
+use mathlib.Core.Path.{◌≡◌, sym, ap, subst, ◌∙◌}
 use Prim.Native.Nat.{◌+◌, ◌-◌}
 use native.Mathlib.Numerals.{unary_clauses}
 use native.Mathlib.Omega.{arith}
@@ -29,7 +29,7 @@ pub loop-i-init : goal.loop-i-init
 loop-i-init c =
     let n = get_or c.args.s.now c.args.at 0 in
     let t = take 6 (drop (c.args.at + 1) c.args.s.now) in
-    (search rules, search rules, subst (Taken n 0 t) (sym c.wide-k.ensures.0) (taken_none n t), simp unary_clauses)
+    (search rules, subst (Taken n 0 t) (sym c.from-k.ensures) (taken_none n t), simp unary_clauses)
 
 pub returns-then-not-step_fits : goal.returns-then-not-step_fits
 returns-then-not-step_fits c =
@@ -39,17 +39,18 @@ returns-then-not-step_fits c =
     let n = get_or b c.args.at 0 in
     let x = get_or b (c.args.at + 1 + l.i) 0 in
     let f : step_fits l.i n x ≡ false = sym c.step_fits.ensures ∙ not-true _ c.if-not-step_fits.true-raw in
-    let w : steps_fit n t ≡ false = l.invariant.3 ∙ fit_next l.i n x (next (goal.at.returns-then-not-step_fits c).In-loop-i) ∙ ap (λ a. a && steps_fit (n - (l.i + 1)) (drop (l.i + 1) t)) f in
-    gone (read_steps (take 7 (drop c.args.at b))) refl c.root-then-not-step_fits.ensures (ap read_steps (seven b c.args.at c.requires) ∙ read_none n t (six (goal.at.returns-then-not-step_fits c).Else-len-gt6) c.if-len-gt6.false w)
+    let w : steps_fit n t ≡ false = l.invariant.2 ∙ fit_next l.i n x (next (goal.at.returns-then-not-step_fits c).In-loop-i) ∙ ap (λ a. a && steps_fit (n - (l.i + 1)) (drop (l.i + 1) t)) f in
+    gone (read_steps (take 7 (drop c.args.at b))) (ap read_steps (seven b c.args.at c.requires) ∙ read_none n t (six (goal.at.returns-then-not-step_fits c).Else-len-gt6) c.if-len-gt6.false w)
 
 pub overflow_mul-k : goal.overflow_mul-k
-overflow_mul-k c = let v = c.loop-i.invariant in let b = taken_bound v.2 v.1 (omega arith) in omega arith
+overflow_mul-k c = let v = c.loop-i.invariant in let b = taken_bound v.1 v.0 (omega arith) in omega arith
 
 pub overflow_add-k : goal.overflow_add-k
 overflow_add-k c =
     let v = c.loop-i.invariant in
-    let b = taken_bound v.2 v.1 (omega arith) in
-    let w = c.wide.ensures.1 in
+    let b = taken_bound v.1 v.0 (omega arith) in
+    let h = c.from.ensures in
+    let f = (c.type_inv.s (c.args.at + 1 + c.loop-i.i)).fits in
     omega arith
 
 pub loop-i-preserved : goal.loop-i-preserved
@@ -60,12 +61,10 @@ loop-i-preserved c =
     let n = get_or b c.args.at 0 in
     let x = get_or b (c.args.at + 1 + l.i) 0 in
     let f : step_fits l.i n x ≡ true = sym c.step_fits.ensures ∙ not-false _ c.if-not-step_fits.false-raw in
-    let full = six (goal.at.loop-i-preserved c).Else-len-gt6 in
-    let w = c.wide.ensures in (
-      search rules,
-      l.invariant.1,
-      taken_next l.invariant.2 (omega arith) (w.0 ∙ six_read b (c.args.at + 1) (omega arith) l.i (omega arith)) w.1,
-      l.invariant.3 ∙ fit_next l.i n x (next (goal.at.loop-i-preserved c).In-loop-i) ∙ ap (λ a. a && steps_fit (n - (l.i + 1)) (drop (l.i + 1) t)) f,
+    let full = six (goal.at.loop-i-preserved c).Else-len-gt6 in (
+      l.invariant.0,
+      taken_next l.invariant.1 (omega arith) (c.from.ensures ∙ six_read b (c.args.at + 1) (omega arith) l.i (omega arith)) (search rules),
+      l.invariant.2 ∙ fit_next l.i n x (next (goal.at.loop-i-preserved c).In-loop-i) ∙ ap (λ a. a && steps_fit (n - (l.i + 1)) (drop (l.i + 1) t)) f,
     )
 
 pub returns : goal.returns
@@ -76,7 +75,7 @@ returns c =
     let n = get_or b c.args.at 0 in
     let full = six (goal.at.returns c).Else-len-gt6 in
     let six-done : l.i ≡ 6 = omega arith in
-    let w : steps_fit n t ≡ true = l.invariant.3 ∙ ap (steps_fit (n - l.i)) (drop_of_length-le t {i = l.i} (omega arith)) in
-    there (read_steps (take 7 (drop c.args.at b))) refl
-    (read_path_lem n t full c.if-len-gt6.false w (subst (λ i. Taken n i t l.k) six-done l.invariant.2))
+    let w : steps_fit n t ≡ true = l.invariant.2 ∙ ap (steps_fit (n - l.i)) (drop_of_length-le t {i = l.i} (omega arith)) in
+    there (read_steps (take 7 (drop c.args.at b)))
+    (read_path_lem n t full c.if-len-gt6.false w (subst (λ i. Taken n i t l.k) six-done l.invariant.1))
     (ap read_steps (seven b c.args.at c.requires) ∙ read_some n t full c.if-len-gt6.false w)

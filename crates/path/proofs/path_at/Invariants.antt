@@ -7,7 +7,4 @@ use Rattle.path.proofs.path_at.Given as goal
 
 abbrev pub invariant-loop-i : goal.invariant-loop-i
 invariant-loop-i l =
-    (l.i ≤ 6) × (l.n ≤ 6) × Taken l.n l.i (take 6 (drop l.first l.s)) l.k × (steps_fit l.n (take 6 (drop l.first l.s)) ≡ steps_fit (l.n - l.i) (drop l.i (take 6 (drop l.first l.s))))
-
-abbrev pub decreases-loop-i : goal.decreases-loop-i
-decreases-loop-i l = 6 - l.i
+    (l.n ≤ 6) × Taken l.n l.i (take 6 (drop l.first l.s)) l.k × (steps_fit l.n (take 6 (drop l.first l.s)) ≡ steps_fit (l.n - l.i) (drop l.i (take 6 (drop l.first l.s))))

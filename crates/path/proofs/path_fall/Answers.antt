@@ -21,7 +21,7 @@ returns-then-digit c =
     let at_p = c.digit in
     let x = at_q.result in
     let y = at_p.result in
-    path_keeps c.args.p c.args.q c.requires.0 c.requires.1 (on (goal.at.returns-then-digit c).Else-not-is_beside) _ c.size-k.ensures.0 x y (at_q.ensures.2 c.requires.1) (at_p.ensures.2 c.requires.0) lower (rw (le-ltb x y (omega arith)))
+    path_keeps c.args.p c.args.q c.requires.0 c.requires.1 (on (goal.at.returns-then-digit c).Else-not-is_beside) _ c.size-k.ensures.0 x y (at_q.ensures.1 c.requires.1) (at_p.ensures.1 c.requires.0) lower (rw (le-ltb x y (omega arith)))
 
 pub returns : goal.returns
 returns c =
@@ -29,4 +29,4 @@ returns c =
     let at_p = c.digit in
     let x = at_q.result in
     let y = at_p.result in
-    path_less c.args.p c.args.q c.requires.0 c.requires.1 (on (goal.at.returns c).Else-not-is_beside) _ c.size-k.ensures.0 x y (at_q.ensures.2 c.requires.1) (at_p.ensures.2 c.requires.0) lower _ c.placed-lower.ensures (omega arith) (rw (lt-ltb x y (omega arith)))
+    path_less c.args.p c.args.q c.requires.0 c.requires.1 (on (goal.at.returns c).Else-not-is_beside) _ c.size-k.ensures.0 x y (at_q.ensures.1 c.requires.1) (at_p.ensures.1 c.requires.0) lower _ c.placed-lower.ensures (omega arith) (rw (lt-ltb x y (omega arith)))

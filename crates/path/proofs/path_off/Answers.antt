@@ -1,7 +1,7 @@
 -- `path::path_off` meets its contract: the digits move up by as many as go. Assumes nothing.
 use borrow.Author.Tests.{not-true, not-false}
 use mathlib.Core.Bool.{true}
-use mathlib.Core.Path.{◌≡◌, refl, sym, ◌∙◌}
+use mathlib.Core.Path.{◌≡◌, sym, ◌∙◌}
 use native.Mathlib.Omega.{arith}
 use Rattle.path.specs.Address.{under, off}
 use Rattle.path.specs.View.{steps}
@@ -16,7 +16,7 @@ on c = sym c.is_under.ensures ∙ not-false _ c.if-not-is_under.false-raw
 
 pub returns-then-not-is_under : goal.returns-then-not-is_under
 returns-then-not-is_under c =
-    gone (off (steps c.args.q) (steps c.args.p)) refl c.root.ensures
+    gone (off (steps c.args.q) (steps c.args.p))
     (off_not (steps c.args.q) (steps c.args.p) (sym c.is_under.ensures ∙ not-true _ c.if-not-is_under.true-raw))
 
 pub overflow_sub-rest : goal.overflow_sub-rest
@@ -31,6 +31,6 @@ overflow_add-result c =
 
 pub returns : goal.returns
 returns c =
-    there (off (steps c.args.q) (steps c.args.p)) refl
+    there (off (steps c.args.q) (steps c.args.p))
     (off_path c.args.p c.args.q c.requires.0 c.requires.1 (on (goal.at.returns c).Else-not-is_under) _ c.size-k.ensures.0)
     (off_some c.args.p c.args.q c.requires.0 c.requires.1 (on (goal.at.returns c).Else-not-is_under))

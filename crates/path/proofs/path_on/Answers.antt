@@ -1,5 +1,4 @@
 -- `path::path_on` meets its contract: the digits move down by as many as come. Assumes nothing.
-use mathlib.Core.Path.{refl}
 use Prim.Native.Nat.{◌*◌, ◌%◌, ◌^◌}
 use native.Mathlib.Nat.{div-le_self}
 use native.Mathlib.Omega.{arith}
@@ -28,4 +27,4 @@ returns c =
     let k = c.size-k.ensures.0 in
     let j = c.size.ensures.0 in
     let m = length-append (steps c.args.q) (steps c.args.p) in
-    there (in_depth l) refl (on_path c.args.p c.args.q c.requires.0 c.requires.1 _ k (omega arith)) (in_depth_fits l (omega arith))
+    there (in_depth l) (on_path c.args.p c.args.q c.requires.0 c.requires.1 _ k (omega arith)) (in_depth_fits l (omega arith))
