@@ -3,10 +3,10 @@
 
 use lines::forms::Operand;
 use lines::whys::Why;
-use std::fs;
 use std::fs::OpenFile;
 use std::io::{Read, Write};
 use std::rt::Files;
+use std::{fs, io};
 use words::hex::hex_in;
 
 pub mod reading;
@@ -26,12 +26,8 @@ fn read_full(file: &mut impl Read, out: &mut [u8]) -> usize {
 
 // All of a file, if there is room for it. What follows it must be its end: a read that fails is no end. A name that is no UTF-8 names none.
 fn file_in(rt: &impl Files, path: &[u8], image: &mut [u8]) -> Result<usize, Why> {
-    let Ok(name) = str::from_utf8(path) else {
-        return Err(Why::NotRead);
-    };
-    let Ok(mut file) = fs::open(rt, name) else {
-        return Err(Why::NotRead);
-    };
+    let name = str::from_utf8(path).map_err(|_| Why::NotRead)?;
+    let mut file = fs::open(rt, name).map_err(|_| Why::NotRead)?;
     let n = read_full(&mut file, image);
     let mut one = [0u8; 1];
     match file.read(&mut one) {
@@ -61,37 +57,27 @@ fn beside<'a>(path: &[u8], name: &'a mut [u8; 4096]) -> Option<&'a [u8]> {
 }
 
 // Written beside and renamed, so that the old file stays as it was where the new one cannot be written.
-pub fn stored(rt: &impl Files, path: &[u8], bytes: &[u8]) -> bool {
+pub fn stored(rt: &impl Files, path: &[u8], bytes: &[u8]) -> Result<(), Why> {
     let mut name = [0u8; 4096];
-    let Some(name) = beside(path, &mut name) else {
-        return false;
-    };
-    let Ok(to) = str::from_utf8(path) else {
-        return false;
-    };
-    let Ok(beside) = str::from_utf8(name) else {
-        return false;
-    };
-    if !written(rt, beside, bytes) {
-        return false;
-    }
+    let name = beside(path, &mut name).ok_or(Why::NotWritten)?;
+    let beside = str::from_utf8(name).map_err(|_| Why::NotWritten)?;
+    let to = str::from_utf8(path).map_err(|_| Why::NotWritten)?;
+    written(rt, beside, bytes).map_err(|_| Why::NotWritten)?;
     if fs::rename(rt, beside, to).is_ok() {
-        return true;
+        return Ok(());
     }
     let _ = fs::remove_file(rt, beside);
-    false
+    Err(Why::NotWritten)
 }
 
-fn written(rt: &impl Files, path: &str, bytes: &[u8]) -> bool {
-    let Ok(mut file) = fs::create(rt, path) else {
-        return false;
-    };
+fn written(rt: &impl Files, path: &str, bytes: &[u8]) -> io::Result<()> {
+    let mut file = fs::create(rt, path)?;
     // Nothing is told when a file is closed, so what a late write comes to is asked before.
-    let put = file.write_all(bytes).is_ok();
-    let kept = file.sync_all().is_ok();
-    if put && kept {
-        return true;
+    let put = file.write_all(bytes);
+    let kept = file.sync_all();
+    let done = put.and(kept);
+    if done.is_err() {
+        let _ = fs::remove_file(rt, path);
     }
-    let _ = fs::remove_file(rt, path);
-    false
+    done
 }

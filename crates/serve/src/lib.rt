@@ -180,13 +180,14 @@ pub fn store(
         say_answer(rt, a, lent, out);
         return;
     };
-    if !stored(rt, c.word, lent.get(..size).unwrap_or_default()) {
-        say_bad(rt, number, Why::NotWritten, out);
-        return;
+    match stored(rt, c.word, lent.get(..size).unwrap_or_default()) {
+        Ok(()) => {
+            out.clear();
+            let _ = put_stored(out, size);
+            say(rt, out);
+        }
+        Err(why) => say_bad(rt, number, why, out),
     }
-    out.clear();
-    let _ = put_stored(out, size);
-    say(rt, out);
 }
 
 pub fn show_dossier(rt: &impl Print, s: &Session, n: u8, out: &mut Line) {
