@@ -45,7 +45,7 @@ fn put_address(line: &mut Line, p: Path) -> fmt::Result {
 // The numbers in a set, with a word before the first and commas between them.
 fn put_set(line: &mut Line, word: &str, set: u32) -> fmt::Result {
     let mut before = word;
-    for n in 0..32 {
+    for n in 0..32u32 {
         if set >> n & 1 == 1 {
             write!(line, "{before}{n}")?;
             before = ",";
