@@ -1,3 +1,3 @@
 pub mod Filled
 pub mod Fresh
-pub mod Times
+pub mod Rows

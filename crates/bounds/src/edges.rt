@@ -4,7 +4,7 @@ ghost use Rattle.tables.specs.View.{PermissionsSound, DossierFits};
 
 use crate::fill::{at, grant, place, top};
 use crate::show;
-use crate::show::{Time, text};
+use crate::show::text;
 use decide::{Asked, change_node, delegate, granted, own, read_attribute, read_node};
 use grants::{Subject, cover_in};
 use path::Path;
@@ -62,35 +62,45 @@ fn clash(rt: &impl Print, g: Grant, h: Grant) {
 
 fn example6(rt: &impl Print) {
     let g = grant(1, 1, 0, Span { first: 0, last: 10 }, 0, 0);
-    matches(rt, g, 1, 3, Time { seconds: -1 });
-    matches(rt, g, 1, 3, Time { seconds: 0 });
-    matches(rt, g, 1, 3, Time { seconds: 10 });
-    matches(rt, g, 1, 3, Time { seconds: 11 });
+    matches(rt, g, who(1, 3, -1));
+    matches(rt, g, who(1, 3, 0));
+    matches(rt, g, who(1, 3, 10));
+    matches(rt, g, who(1, 3, 11));
 }
 
-fn matches(rt: &impl Print, g: Grant, role: u8, user: u8, t: Time) {
-    let s = who(role, user, t);
+fn matches(rt: &impl Print, g: Grant, s: Subject) {
     show::terms(rt, g);
     text(rt, b",");
     subject(rt, s);
     show::either(rt, grants::matches(s, 1, g), b": match\n", b": no match\n");
 }
 
-fn who(role: u8, user: u8, t: Time) -> Subject {
-    Subject {
-        role: role,
-        user: user,
-        time: t.seconds,
-    }
+fn who(role: u8, user: u8, time: i64) -> Subject {
+    Subject { role, user, time }
 }
 
 fn subject(rt: &impl Print, s: Subject) {
-    text(rt, b" role ");
-    show::number(rt, s.role as u64);
-    text(rt, b" user ");
-    show::number(rt, s.user as u64);
-    text(rt, b" time ");
-    show::moment(rt, Time { seconds: s.time });
+    let _ = print!(rt; " role {} user {} time {}", s.role, s.user, s.time);
+}
+
+// What is asked of a node, and of an attribute: what comes before the decision.
+fn asked(rt: &impl Print, what: &[u8], p: Path, s: Subject)
+    requires { PathSound p }
+{
+    text(rt, what);
+    show::address(rt, p);
+    subject(rt, s);
+    text(rt, b": ");
+}
+
+fn asked_of(rt: &impl Print, what: &[u8], p: Path, name: u16, s: Subject)
+    requires { PathSound p }
+{
+    text(rt, what);
+    show::address(rt, p);
+    let _ = print!(rt; " {name}");
+    subject(rt, s);
+    text(rt, b": ");
 }
 
 // ---- read
@@ -99,51 +109,39 @@ fn reads(rt: &impl Print, d: Dossier)
     requires { DossierFits d }
 {
     let p = top();
-    read(rt, d, p, 15, 1, Time { seconds: 100 });
-    read(rt, d, p, 2, 3, Time { seconds: -1 });
-    read(rt, d, p, 2, 3, Time { seconds: 0 });
-    read(rt, d, p, 2, 3, Time { seconds: 10 });
-    read(rt, d, p, 2, 3, Time { seconds: 11 });
-    read(rt, d, p, 2, 3, Time { seconds: -11 });
-    read(rt, d, p, 2, 3, Time { seconds: -21 });
-    read(rt, d, place(2), 2, 3, Time { seconds: 5 });
+    read(rt, d, p, who(15, 1, 100));
+    read(rt, d, p, who(2, 3, -1));
+    read(rt, d, p, who(2, 3, 0));
+    read(rt, d, p, who(2, 3, 10));
+    read(rt, d, p, who(2, 3, 11));
+    read(rt, d, p, who(2, 3, -11));
+    read(rt, d, p, who(2, 3, -21));
+    read(rt, d, place(2), who(2, 3, 5));
 }
 
-fn read(rt: &impl Print, d: Dossier, p: Path, role: u8, user: u8, t: Time)
+fn read(rt: &impl Print, d: Dossier, p: Path, s: Subject)
     requires { DossierFits d × PathSound p }
 {
-    let s = who(role, user, t);
-    text(rt, b"read ");
-    show::address(rt, p);
-    subject(rt, s);
-    text(rt, b": ");
+    asked(rt, b"read ", p, s);
     show::decision(rt, read_node(d, p, s));
 }
 
 fn attribute_reads(rt: &impl Print, d: Dossier)
     requires { DossierFits d }
 {
-    let end = Time {
-        seconds: 9223372036854775807,
-    };
-    attribute_read(rt, d, top(), 85, 8, 3, end);
-    attribute_read(rt, d, top(), 86, 8, 3, end);
-    attribute_read(rt, d, top(), 84, 8, 3, end);
-    attribute_read(rt, d, top(), 85, 9, 3, Time { seconds: 5 });
-    attribute_read(rt, d, top(), 85, 9, 1, Time { seconds: 5 });
-    attribute_read(rt, d, top(), 85, 9, 64, Time { seconds: 5 });
+    let end = i64::MAX;
+    attribute_read(rt, d, top(), 85, who(8, 3, end));
+    attribute_read(rt, d, top(), 86, who(8, 3, end));
+    attribute_read(rt, d, top(), 84, who(8, 3, end));
+    attribute_read(rt, d, top(), 85, who(9, 3, 5));
+    attribute_read(rt, d, top(), 85, who(9, 1, 5));
+    attribute_read(rt, d, top(), 85, who(9, 64, 5));
 }
 
-fn attribute_read(rt: &impl Print, d: Dossier, p: Path, name: u16, role: u8, user: u8, t: Time)
+fn attribute_read(rt: &impl Print, d: Dossier, p: Path, name: u16, s: Subject)
     requires { DossierFits d × PathSound p }
 {
-    let s = who(role, user, t);
-    text(rt, b"read ");
-    show::address(rt, p);
-    text(rt, b" ");
-    show::number(rt, name as u64);
-    subject(rt, s);
-    text(rt, b": ");
+    asked_of(rt, b"read ", p, name, s);
     show::decision(rt, read_attribute(d, p, name, s));
 }
 
@@ -152,22 +150,18 @@ fn attribute_read(rt: &impl Print, d: Dossier, p: Path, name: u16, role: u8, use
 fn changes(rt: &impl Print, d: Dossier)
     requires { DossierFits d }
 {
-    change(rt, d, top(), 2, 3, Time { seconds: 5 });
-    change(rt, d, place(2), 2, 3, Time { seconds: 5 });
-    change(rt, d, top(), 2, 3, Time { seconds: -15 });
-    change(rt, d, top(), 2, 1, Time { seconds: 100 });
-    change(rt, d, place(1), 15, 64, Time { seconds: -5 });
-    change(rt, d, place(1), 15, 63, Time { seconds: -5 });
+    change(rt, d, top(), who(2, 3, 5));
+    change(rt, d, place(2), who(2, 3, 5));
+    change(rt, d, top(), who(2, 3, -15));
+    change(rt, d, top(), who(2, 1, 100));
+    change(rt, d, place(1), who(15, 64, -5));
+    change(rt, d, place(1), who(15, 63, -5));
 }
 
-fn change(rt: &impl Print, d: Dossier, p: Path, role: u8, user: u8, t: Time)
+fn change(rt: &impl Print, d: Dossier, p: Path, s: Subject)
     requires { DossierFits d × PathSound p }
 {
-    let s = who(role, user, t);
-    text(rt, b"change ");
-    show::address(rt, p);
-    subject(rt, s);
-    text(rt, b": ");
+    asked(rt, b"change ", p, s);
     show::decision(rt, change_node(d, p, s));
 }
 
@@ -176,22 +170,16 @@ fn change(rt: &impl Print, d: Dossier, p: Path, role: u8, user: u8, t: Time)
 fn owns(rt: &impl Print, d: Dossier)
     requires { DossierFits d }
 {
-    owned(rt, d, top(), 0, 1, 1, Time { seconds: 5 });
-    owned(rt, d, top(), 0, 1, 64, Time { seconds: 5 });
-    owned(rt, d, top(), 85, 1, 64, Time { seconds: 5 });
-    owned(rt, d, top(), 85, 1, 1, Time { seconds: 5 });
+    owned(rt, d, top(), 0, who(1, 1, 5));
+    owned(rt, d, top(), 0, who(1, 64, 5));
+    owned(rt, d, top(), 85, who(1, 64, 5));
+    owned(rt, d, top(), 85, who(1, 1, 5));
 }
 
-fn owned(rt: &impl Print, d: Dossier, p: Path, name: u16, role: u8, user: u8, t: Time)
+fn owned(rt: &impl Print, d: Dossier, p: Path, name: u16, s: Subject)
     requires { DossierFits d × PathSound p }
 {
-    let s = who(role, user, t);
-    text(rt, b"own ");
-    show::address(rt, p);
-    text(rt, b" ");
-    show::number(rt, name as u64);
-    subject(rt, s);
-    text(rt, b": ");
+    asked_of(rt, b"own ", p, name, s);
     show::decision(rt, own(d, p, name, s));
 }
 
@@ -199,22 +187,18 @@ fn owned(rt: &impl Print, d: Dossier, p: Path, name: u16, role: u8, user: u8, t:
 fn delegates(rt: &impl Print, d: Dossier)
     requires { DossierFits d }
 {
-    delegated(rt, d, top(), 15, 1, Time { seconds: 5 });
-    delegated(rt, d, top(), 14, 1, Time { seconds: 5 });
-    delegated(rt, d, top(), 14, 1, Time { seconds: 11 });
-    delegated(rt, d, place(2), 15, 64, Time { seconds: -1 });
-    delegated(rt, d, place(2), 15, 64, Time { seconds: 0 });
-    delegated(rt, d, place(2), 15, 2, Time { seconds: -1 });
+    delegated(rt, d, top(), who(15, 1, 5));
+    delegated(rt, d, top(), who(14, 1, 5));
+    delegated(rt, d, top(), who(14, 1, 11));
+    delegated(rt, d, place(2), who(15, 64, -1));
+    delegated(rt, d, place(2), who(15, 64, 0));
+    delegated(rt, d, place(2), who(15, 2, -1));
 }
 
-fn delegated(rt: &impl Print, d: Dossier, p: Path, role: u8, user: u8, t: Time)
+fn delegated(rt: &impl Print, d: Dossier, p: Path, s: Subject)
     requires { DossierFits d × PathSound p }
 {
-    let s = who(role, user, t);
-    text(rt, b"delegate ");
-    show::address(rt, p);
-    subject(rt, s);
-    text(rt, b": ");
+    asked(rt, b"delegate ", p, s);
     show::decision(rt, delegate(d, p, 0, s));
 }
 
@@ -244,7 +228,7 @@ fn provisions(rt: &impl Print, q: Permissions)
     let same = Span { first: 0, last: 10 };
     cover(rt, q, p, 2, 3, grant(5, 1, 0, same, 18, 0));
     cover(rt, q, p, 2, 3, grant(5, 1, 0, same, 16, 1));
-    cover(rt, q, p, 2, 3, grant(5, 1, 7, same, 4294967295, 4294967295));
+    cover(rt, q, p, 2, 3, grant(5, 1, 7, same, u32::MAX, u32::MAX));
 }
 
 // One user's permission covers one for that user, not one for any.
@@ -273,7 +257,7 @@ fn delegators(rt: &impl Print, q: Permissions)
 fn cover(rt: &impl Print, q: Permissions, p: Path, role: u8, user: u8, g: Grant)
     requires { PermissionsSound q × PathSound p }
 {
-    let s = who(role, user, Time { seconds: 1000 });
+    let s = who(role, user, 1000);
     text(rt, b"cover ");
     show::address(rt, p);
     subject(rt, s);
@@ -292,24 +276,20 @@ fn cover(rt: &impl Print, q: Permissions, p: Path, role: u8, user: u8, g: Grant)
 fn requests(rt: &impl Print, d: Dossier, user: u8)
     requires { DossierFits d }
 {
-    let mut number: u8 = 0;
-    while number < 19 {
+    for number in 0..19 {
         request(rt, d, number, user);
-        number += 1;
     }
 }
 
 fn request(rt: &impl Print, d: Dossier, number: u8, user: u8)
     requires { DossierFits d }
 {
-    let s = who(2, user, Time { seconds: 5 });
-    text(rt, b"request ");
-    show::number(rt, number as u64);
-    text(rt, b" 2 85");
+    let s = who(2, user, 5);
+    let _ = print!(rt; "request {number} 2 85");
     subject(rt, s);
     text(rt, b": ");
     let a = Asked {
-        number: number,
+        number,
         subject: s,
         path: place(2),
         name: 85,
@@ -323,9 +303,9 @@ fn blank(rt: &impl Print, d: Dossier)
     requires { DossierFits d }
 {
     let p = at(2, [3, 1, 0, 0, 0, 0]);
-    read(rt, d, p, 2, 0, Time { seconds: 5 });
-    change(rt, d, p, 2, 0, Time { seconds: 5 });
-    attribute_read(rt, d, p, 85, 2, 0, Time { seconds: 5 });
-    owned(rt, d, p, 0, 2, 0, Time { seconds: 5 });
-    delegated(rt, d, p, 2, 0, Time { seconds: 5 });
+    read(rt, d, p, who(2, 0, 5));
+    change(rt, d, p, who(2, 0, 5));
+    attribute_read(rt, d, p, 85, who(2, 0, 5));
+    owned(rt, d, p, 0, who(2, 0, 5));
+    delegated(rt, d, p, who(2, 0, 5));
 }

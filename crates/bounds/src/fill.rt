@@ -17,10 +17,7 @@ use tables::{
 pub fn at(len: u8, steps: [u8; 6]) -> Path
     ensures { PathSound result }
 {
-    let p = RawPath {
-        len: len,
-        steps: steps,
-    };
+    let p = RawPath { len, steps };
     if !path::is_valid(p) {
         return path::root();
     }
@@ -30,7 +27,7 @@ pub fn at(len: u8, steps: [u8; 6]) -> Path
 pub fn top() -> Path
     ensures { PathSound result }
 {
-    at(0, [0, 0, 0, 0, 0, 0])
+    at(0, [0; 6])
 }
 
 // Child k of the root; the root for 0.
@@ -72,10 +69,8 @@ fn children(t: Nodes) -> Nodes
     ensures { NodesSound result }
 {
     let mut all = t;
-    let mut k: u8 = 32;
-    while 1 < k {
+    for k in (2..=32).rev() {
         all = with_node(all, place(k), k);
-        k -= 1;
     }
     all
 }
@@ -86,10 +81,8 @@ fn grandchildren(t: Nodes) -> Nodes
     ensures { NodesSound result }
 {
     let mut all = t;
-    let mut k: u8 = 26;
-    while 0 < k {
+    for k in (1..=26).rev() {
         all = with_node(all, at(2, [2, k, 0, 0, 0, 0]), 32 + k);
-        k -= 1;
     }
     all
 }
@@ -100,10 +93,8 @@ fn chain(t: Nodes) -> Nodes
     ensures { NodesSound result }
 {
     let mut all = t;
-    let mut n: u8 = 7;
-    while 0 < n {
-        n -= 1;
-        all = with_node(all, at(n, [1, 1, 1, 1, 1, 1]), 1);
+    for n in (0..7).rev() {
+        all = with_node(all, at(n, [1; 6]), 1);
     }
     all
 }
@@ -138,22 +129,16 @@ fn with_attribute(t: Attributes, p: Path, name: u16, owner: u8, value: Value) ->
     }
 }
 
-fn wide(x: u16) -> u32
-    ensures { result < 65536 }
-{
-    x as u32
-}
-
 // The value under a name on the node at place k: on the root minus zero, and the least and the greatest whole number.
 fn value(k: u16, name: u16) -> Value {
     if k != 0 {
-        return Value::Whole(wide(k) * 1000 + wide(name));
+        return Value::Whole(u32::from(k) * 1000 + u32::from(name));
     }
     match name {
         98 => Value::Whole(0),
         99 => Value::Reading(f32::from_bits(0x8000_0000)),
-        100 => Value::Whole(4294967295),
-        _ => Value::Whole(wide(name)),
+        100 => Value::Whole(u32::MAX),
+        _ => Value::Whole(u32::from(name)),
     }
 }
 
@@ -164,10 +149,8 @@ fn names(t: Attributes, k: u8) -> Attributes
 {
     let p = place(k);
     let mut all = t;
-    let mut name: u16 = 100;
-    while 84 < name {
-        all = with_attribute(all, p, name, 64 - k, value(k as u16, name));
-        name -= 1;
+    for name in (85..=100).rev() {
+        all = with_attribute(all, p, name, 64 - k, value(u16::from(k), name));
     }
     all
 }
@@ -176,9 +159,7 @@ pub fn attributes() -> Attributes
     ensures { AttributesSound result }
 {
     let mut all = tables::no_attributes();
-    let mut k: u8 = 16;
-    while 0 < k {
-        k -= 1;
+    for k in (0..16).rev() {
         all = names(all, k);
     }
     all
@@ -188,12 +169,12 @@ pub fn attributes() -> Attributes
 
 pub fn grant(role: u8, action: u8, user: u8, span: Span, messages: u32, agreements: u32) -> Grant {
     Grant {
-        role: role,
-        action: action,
-        user: user,
-        span: span,
-        messages: messages,
-        agreements: agreements,
+        role,
+        action,
+        user,
+        span,
+        messages,
+        agreements,
     }
 }
 
@@ -214,7 +195,7 @@ fn with_permission(t: Permissions, p: Path, name: u16, g: Grant) -> Permissions
     }
     let a = Permission {
         path: p,
-        name: name,
+        name,
         grant: g,
     };
     permissions::insert(a, t)
@@ -234,15 +215,12 @@ fn user_in(user: u8, role: u8) -> u8
 fn in_role(g: Grant, role: u8) -> Grant
     requires { role ≤ 15 }
 {
-    let s = g.span;
-    grant(
+    Grant {
         role,
-        g.action,
-        user_in(g.user, role),
-        s,
-        g.messages | role as u32,
-        g.agreements,
-    )
+        user: user_in(g.user, role),
+        messages: g.messages | u32::from(role),
+        ..g
+    }
 }
 
 // A permission in each role from the last one down to 1.
@@ -251,10 +229,8 @@ fn roles(t: Permissions, p: Path, name: u16, g: Grant, last: u8) -> Permissions
     ensures { PermissionsSound result }
 {
     let mut all = t;
-    let mut role = last;
-    while 0 < role {
+    for role in (1..=last).rev() {
         all = with_permission(all, p, name, in_role(g, role));
-        role -= 1;
     }
     all
 }
@@ -306,7 +282,7 @@ fn on_places(t: Permissions) -> Permissions
 {
     let s = Span { first: -5, last: 5 };
     let past = Span {
-        first: -9223372036854775808,
+        first: i64::MIN,
         last: -1,
     };
     let a = with_permission(t, place(2), 0, grant(15, 4, 64, past, 2147483648, 1));
@@ -323,8 +299,8 @@ fn on_places(t: Permissions) -> Permissions
 
 pub fn always() -> Span {
     Span {
-        first: -9223372036854775808,
-        last: 9223372036854775807,
+        first: i64::MIN,
+        last: i64::MAX,
     }
 }
 

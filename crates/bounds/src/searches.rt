@@ -61,15 +61,8 @@ fn names(rt: &impl Print, t: Attributes, p: Path)
 }
 
 fn listed(rt: &impl Print, l: Names) {
-    let n = l.count;
-    let mut i: usize = 0;
-    while i < 16 {
-        if n <= i {
-            return;
-        }
-        text(rt, b" ");
-        show::number(rt, l.names[i] as u64);
-        i += 1;
+    for name in l.names.iter().take(l.count) {
+        let _ = print!(rt; " {name}");
     }
 }
 
@@ -88,14 +81,11 @@ fn attribute(rt: &impl Print, t: Attributes, p: Path, name: u16)
 {
     text(rt, b"attribute ");
     show::address(rt, p);
-    text(rt, b" ");
-    show::number(rt, name as u64);
+    let _ = print!(rt; " {name}");
     match attribute_in(t, p, name) {
         Found::Absent => text(rt, b" absent\n"),
         Found::Present(u, v) => {
-            text(rt, b" owner ");
-            show::number(rt, u as u64);
-            text(rt, b" ");
+            let _ = print!(rt; " owner {u} ");
             show::value(rt, v);
             text(rt, b"\n");
         }
@@ -132,7 +122,7 @@ fn other_permissions(rt: &impl Print, t: Permissions)
         t,
         top(),
         85,
-        grant(2, 1, 0, fill::always(), 66, 4294967295),
+        grant(2, 1, 0, fill::always(), 66, u32::MAX),
     );
 }
 
@@ -141,9 +131,7 @@ fn permission(rt: &impl Print, t: Permissions, p: Path, name: u16, g: Grant)
 {
     text(rt, b"permission ");
     show::address(rt, p);
-    text(rt, b" ");
-    show::number(rt, name as u64);
-    text(rt, b" ");
+    let _ = print!(rt; " {name} ");
     show::terms(rt, g);
     show::either(rt, holds_in(t, p, name, g), b": held\n", b": not held\n");
 }

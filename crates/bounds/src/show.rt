@@ -6,55 +6,29 @@ use grants::Provisions;
 use path::Path;
 use tables::{Attribute, Attributes, Grant, Node, Nodes, Permission, Permissions, Span, Value};
 
-// A time, in a struct.
-#[derive(Clone, Copy)]
-pub struct Time {
-    pub seconds: i64,
-}
-
 // ---- words and numbers
 
 pub fn text(rt: &impl Print, s: &[u8]) {
     let _ = rt.write_all(s);
 }
 
-pub fn number(rt: &impl Print, n: u64) {
-    let _ = rt.print(n);
-}
-
 pub fn line(rt: &impl Print, words: &[u8], n: usize) {
     text(rt, words);
-    number(rt, n as u64);
-    text(rt, b"\n");
+    let _ = println!(rt; "{n}");
 }
 
 pub fn bound(rt: &impl Print, n: usize, words: &[u8], over: bool) {
-    number(rt, n as u64);
+    let _ = print!(rt; "{n}");
     text(rt, words);
     either(rt, over, b"over\n", b"within\n");
 }
 
 pub fn either(rt: &impl Print, yes: bool, a: &[u8], b: &[u8]) {
-    if yes {
-        text(rt, a);
-        return;
-    }
-    text(rt, b);
-}
-
-pub fn moment(rt: &impl Print, t: Time) {
-    if 0 <= t.seconds {
-        number(rt, t.seconds as u64);
-        return;
-    }
-    text(rt, b"-");
-    number(rt, (!t.seconds) as u64 + 1);
+    text(rt, if yes { a } else { b });
 }
 
 pub fn span(rt: &impl Print, s: Span) {
-    moment(rt, Time { seconds: s.first });
-    text(rt, b"..");
-    moment(rt, Time { seconds: s.last });
+    let _ = print!(rt; "{}..{}", s.first, s.last);
 }
 
 // ---- paths
@@ -68,10 +42,8 @@ pub fn address(rt: &impl Print, p: Path)
         text(rt, b"/");
         return;
     }
-    let mut i: usize = 0;
-    while i < n {
+    for i in 0..n {
         step(rt, i, path::step_of(p, i));
-        i += 1;
     }
 }
 
@@ -79,7 +51,7 @@ fn step(rt: &impl Print, i: usize, s: u8) {
     if 0 < i {
         text(rt, b".");
     }
-    number(rt, s as u64);
+    let _ = print!(rt; "{s}");
 }
 
 // ---- rows
@@ -89,19 +61,14 @@ fn node(rt: &impl Print, a: Node)
 {
     text(rt, b"node ");
     address(rt, a.path);
-    text(rt, b" owner ");
-    number(rt, a.owner as u64);
-    text(rt, b"\n");
+    let _ = println!(rt; " owner {}", a.owner);
 }
 
 pub fn nodes(rt: &impl Print, t: Nodes)
     requires { NodesSound t }
 {
-    let n = t.count;
-    let mut i: usize = 0;
-    while i < n {
-        node(rt, t.rows[i]);
-        i += 1;
+    for a in &t.rows[..t.count] {
+        node(rt, *a);
     }
 }
 
@@ -109,23 +76,20 @@ pub fn nodes(rt: &impl Print, t: Nodes)
 pub fn value(rt: &impl Print, v: Value) {
     match v {
         Value::Whole(n) => {
-            text(rt, b"whole ");
-            number(rt, n as u64);
+            let _ = print!(rt; "whole {n}");
         }
         Value::Reading(x) => {
-            text(rt, b"reading ");
-            let bits = pattern(x);
-            let _ = print!(rt; "{bits:08x}");
+            let _ = print!(rt; "reading {:08x}", pattern(x));
         }
     }
 }
 
 // A reading that is no number has the pattern 7fc00000.
 fn pattern(x: f32) -> u32 {
-    if x != x {
+    if x.is_nan() {
         return 0x7fc0_0000;
     }
-    f32::to_bits(x)
+    x.to_bits()
 }
 
 fn attribute(rt: &impl Print, a: Attribute)
@@ -133,44 +97,27 @@ fn attribute(rt: &impl Print, a: Attribute)
 {
     text(rt, b"attribute ");
     address(rt, a.path);
-    text(rt, b" ");
-    number(rt, a.name as u64);
-    text(rt, b" owner ");
-    number(rt, a.owner as u64);
-    text(rt, b" ");
-    let v = a.value;
-    value(rt, v);
+    let _ = print!(rt; " {} owner {} ", a.name, a.owner);
+    value(rt, a.value);
     text(rt, b"\n");
 }
 
 pub fn attributes(rt: &impl Print, t: Attributes)
     requires { AttributesSound t }
 {
-    let n = t.count;
-    let mut i: usize = 0;
-    while i < n {
-        attribute(rt, t.rows[i]);
-        i += 1;
+    for a in &t.rows[..t.count] {
+        attribute(rt, *a);
     }
 }
 
 pub fn terms(rt: &impl Print, g: Grant) {
-    text(rt, b"role ");
-    number(rt, g.role as u64);
-    text(rt, b" action ");
-    number(rt, g.action as u64);
-    text(rt, b" user ");
-    number(rt, g.user as u64);
-    text(rt, b" ");
+    let _ = print!(rt; "role {} action {} user {} ", g.role, g.action, g.user);
     span(rt, g.span);
     provisions(rt, g.messages, g.agreements);
 }
 
 fn provisions(rt: &impl Print, messages: u32, agreements: u32) {
-    text(rt, b" messages ");
-    number(rt, messages as u64);
-    text(rt, b" agreements ");
-    number(rt, agreements as u64);
+    let _ = print!(rt; " messages {messages} agreements {agreements}");
 }
 
 fn permission(rt: &impl Print, a: Permission)
@@ -178,9 +125,7 @@ fn permission(rt: &impl Print, a: Permission)
 {
     text(rt, b"permission ");
     address(rt, a.path);
-    text(rt, b" ");
-    number(rt, a.name as u64);
-    text(rt, b" ");
+    let _ = print!(rt; " {} ", a.name);
     terms(rt, a.grant);
     text(rt, b"\n");
 }
@@ -188,11 +133,8 @@ fn permission(rt: &impl Print, a: Permission)
 pub fn permissions(rt: &impl Print, t: Permissions)
     requires { PermissionsSound t }
 {
-    let n = t.count;
-    let mut i: usize = 0;
-    while i < n {
-        permission(rt, t.rows[i]);
-        i += 1;
+    for a in &t.rows[..t.count] {
+        permission(rt, *a);
     }
 }
 

@@ -32,25 +32,16 @@ fn length_line(rt: &impl Print, image: &[u8], n: usize) {
     if image.len() < n {
         return;
     }
-    text(rt, b"length ");
-    number(rt, n);
-    text(rt, b": ");
+    let _ = print!(rt; "length {n}: ");
     answer(rt, &image[..n]);
     text(rt, b"\n");
 }
 
 // The full image, with zeros behind it.
 fn lengths(rt: &impl Print, image: &[u8]) {
-    length_line(rt, image, 0);
-    length_line(rt, image, 39);
-    length_line(rt, image, 40);
-    length_line(rt, image, 41);
-    length_line(rt, image, 17880);
-    length_line(rt, image, 17919);
-    length_line(rt, image, 17920);
-    length_line(rt, image, 17921);
-    length_line(rt, image, 17960);
-    length_line(rt, image, 18000);
+    for n in [0, 39, 40, 41, 17880, 17919, 17920, 17921, 17960, 18000] {
+        length_line(rt, image, n);
+    }
 }
 
 // With a first record that is bad, the length still comes first.
@@ -89,10 +80,7 @@ fn room(rt: &impl Print, image: &[u8]) {
     }
     let r = saved::load(image);
     let d = r.dossier;
-    text(rt, b"save of ");
-    number(rt, n);
-    text(rt, b" bytes into ");
-    number(rt, n - 1);
+    let _ = print!(rt; "save of {n} bytes into {}", n - 1);
     either(
         rt,
         saved::is_refused(d, n - 1),
@@ -102,17 +90,6 @@ fn room(rt: &impl Print, image: &[u8]) {
 }
 
 // ---- one byte
-
-fn next(b: u8) -> u8 {
-    if b == 255 {
-        return 0;
-    }
-    b + 1
-}
-
-fn flipped(b: u8) -> u8 {
-    b ^ 0x80
-}
 
 // The byte at k is replaced, and put back.
 fn with_byte(rt: &impl Print, image: &mut [u8], k: usize, b: u8) {
@@ -132,11 +109,10 @@ fn position(rt: &impl Print, image: &mut [u8], kind: &[u8], k: usize, i: usize) 
     }
     let b = image[k];
     text(rt, kind);
-    number(rt, i);
-    text(rt, b": ");
-    with_byte(rt, image, k, next(b));
+    let _ = print!(rt; "{i}: ");
+    with_byte(rt, image, k, b.wrapping_add(1));
     text(rt, b", ");
-    with_byte(rt, image, k, flipped(b));
+    with_byte(rt, image, k, b ^ 0x80);
     text(rt, b"\n");
 }
 
@@ -144,10 +120,8 @@ fn position(rt: &impl Print, image: &mut [u8], kind: &[u8], k: usize, i: usize) 
 fn record(rt: &impl Print, image: &mut [u8], kind: &[u8], at: usize)
     requires { at ≤ 440 }
 {
-    let mut i: usize = 0;
-    while i < 40 {
+    for i in 0..40 {
         position(rt, image, kind, at + i, i);
-        i += 1;
     }
 }
 

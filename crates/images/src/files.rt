@@ -1,5 +1,5 @@
 // Files of images: a length, in some a record number before it, then the bytes.
-ghost use Rattle.std.specs.Prelude.{◌≡◌, ◌<◌, length};
+ghost use Rattle.std.specs.Prelude.{◌≡◌, length};
 ghost use Rattle.std.specs.Counts.{IsPrefixLen};
 
 use std::io::Read;
@@ -9,6 +9,7 @@ fn read_full(file: &mut impl Read, out: &mut [u8]) -> usize
     ensures { IsPrefixLen result out.new }
 {
     let mut done: usize = 0;
+    // no `for`: each read says how far it went
     while done < out.len() {
         let n = file.read(&mut out[done..]).unwrap_or(0);
         if n == 0 {
@@ -19,35 +20,13 @@ fn read_full(file: &mut impl Read, out: &mut [u8]) -> usize
     done
 }
 
-// A number of four bytes, or that the file has ended.
-#[derive(Clone, Copy)]
-pub struct Head {
-    pub there: bool,
-    pub n: usize,
-}
-
-fn wide(x: u8) -> usize
-    ensures { result < 256 }
-{
-    x as usize
-}
-
-fn value(b: &[u8; 4]) -> usize {
-    let high = wide(b[0]) * 256 + wide(b[1]);
-    let low = wide(b[2]) * 256 + wide(b[3]);
-    high * 65536 + low
-}
-
-pub fn number(file: &mut impl Read) -> Head {
+// A number of four bytes; none where the file has ended.
+pub fn number(file: &mut impl Read) -> Option<usize> {
     let mut four = [0u8; 4];
-    let got = read_full(file, &mut four);
-    if got < 4 {
-        return Head { there: false, n: 0 };
+    if read_full(file, &mut four) < 4 {
+        return None;
     }
-    Head {
-        there: true,
-        n: value(&four),
-    }
+    Some(u32::from_be_bytes(four) as usize)
 }
 
 // Room for an image with two records too many.

@@ -9,8 +9,8 @@ mod whole;
 
 fn main(rt: HostRuntime) {
     whole::good(&rt);
-    whole::bad(&rt, b"bad", b"bad.images");
-    whole::bad(&rt, b"over", b"over.images");
+    whole::bad(&rt, "bad", "bad.images");
+    whole::bad(&rt, "over", "over.images");
     damage::full(&rt);
     damage::damaged(&rt);
 }

@@ -22,32 +22,9 @@ pub fn load(bytes: &[u8]) -> Loaded
     image::load(bytes)
 }
 
-fn starts_with(out: &[u8], image: &[u8]) -> bool {
-    let n = image.len();
-    if out.len() < n {
-        return false;
-    }
-    let mut i: usize = 0;
-    while i < n {
-        if out[i] != image[i] {
-            return false;
-        }
-        i += 1;
-    }
-    true
-}
-
 // Whether every byte from `from` on is as it was before the save.
 fn is_kept(out: &[u8], from: usize) -> bool {
-    let n = out.len();
-    let mut i = from;
-    while i < n {
-        if out[i] != PATTERN {
-            return false;
-        }
-        i += 1;
-    }
-    true
+    out.iter().skip(from).all(|b| *b == PATTERN)
 }
 
 // Whether a dossier saves as that image, and nothing is written beyond.
@@ -56,7 +33,7 @@ pub fn saves_as(d: Dossier, image: &[u8]) -> bool
 {
     let mut out = buffer();
     let n = count(save::save(d, &mut out));
-    (n == image.len()) & (starts_with(&out, image) & is_kept(&out, n))
+    (n == image.len()) & (out.starts_with(image) & is_kept(&out, n))
 }
 
 // The bytes that were written, or none.

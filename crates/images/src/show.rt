@@ -9,9 +9,5 @@ pub fn number(rt: &impl Print, n: usize) {
 }
 
 pub fn either(rt: &impl Print, yes: bool, a: &[u8], b: &[u8]) {
-    if yes {
-        text(rt, a);
-        return;
-    }
-    text(rt, b);
+    text(rt, if yes { a } else { b });
 }

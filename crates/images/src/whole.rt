@@ -1,7 +1,6 @@
 // Images as the vectors have them: good ones load and save as they were, bad ones are blamed on the right record.
-ghost use Rattle.std.specs.Prelude.{◌≤◌};
+ghost use Rattle.std.specs.Prelude.{◌≤◌, IfSome};
 
-use crate::show::{number, text};
 use crate::{files, saved};
 use std::io::Read;
 use std::rt::Files;
@@ -12,10 +11,9 @@ const MOST: usize = 100000;
 
 // ---- good images
 
-// What came of one image; there false: the file has ended.
+// What came of one image.
 #[derive(Clone, Copy)]
 struct Tried {
-    there: bool,
     records: usize,
     wrong: usize,
 }
@@ -38,48 +36,40 @@ fn is_right(image: &[u8]) -> bool {
 fn one_if(wrong: bool) -> usize
     ensures { result ≤ 1 }
 {
-    if wrong {
-        return 1;
-    }
-    0
+    if wrong { 1 } else { 0 }
 }
 
-fn try_good(file: &mut impl Read) -> Tried
-    ensures { (result.records ≤ 450) × (result.wrong ≤ 1) }
+// None where the file has ended.
+fn try_good(file: &mut impl Read) -> Option<Tried>
+    ensures { IfSome result (λ t. (t.records ≤ 450) × (t.wrong ≤ 1)) }
 {
-    let head = files::number(file);
+    let size = files::number(file)?;
     let mut space = files::space();
-    let n = files::bytes(file, head.n, &mut space);
-    let right = is_right(&space[..n]) & (n == head.n);
-    Tried {
-        there: head.there,
+    let n = files::bytes(file, size, &mut space);
+    let right = is_right(&space[..n]) & (n == size);
+    Some(Tried {
         records: n / 40,
         wrong: one_if(!right),
-    }
+    })
 }
 
 fn try_all(file: &mut impl Read) -> Tally {
-    let mut images: usize = 0;
-    let mut records: usize = 0;
-    let mut wrong: usize = 0;
-    while images < MOST {
-        let t = try_good(file);
-        if !t.there {
-            return Tally {
-                images,
-                records,
-                wrong,
-            };
-        }
-        images += 1;
-        records += t.records;
-        wrong += t.wrong;
+    let mut all = Tally {
+        images: 0,
+        records: 0,
+        wrong: 0,
+    };
+    for images in 1..=MOST {
+        let Some(t) = try_good(file) else {
+            return all;
+        };
+        all = Tally {
+            images,
+            records: all.records + t.records,
+            wrong: all.wrong + t.wrong,
+        };
     }
-    Tally {
-        images,
-        records,
-        wrong,
-    }
+    all
 }
 
 // A file that cannot be opened has no images.
@@ -88,13 +78,10 @@ pub fn good(rt: &(impl Files + Print)) {
         Ok(mut file) => try_all(&mut file),
         Err(_) => try_all(&mut io::empty()),
     };
-    text(rt, b"good: ");
-    number(rt, t.images);
-    text(rt, b" images, ");
-    number(rt, t.records);
-    text(rt, b" records, ");
-    number(rt, t.wrong);
-    text(rt, b" wrong\n");
+    let _ = println!(rt;
+        "good: {} images, {} records, {} wrong",
+        t.images, t.records, t.wrong
+    );
 }
 
 // ---- bad images
@@ -102,102 +89,71 @@ pub fn good(rt: &(impl Files + Print)) {
 // What was blamed, and whether that is wrong; a good answer is wrong.
 #[derive(Clone, Copy)]
 struct Blamed {
-    there: bool,
     record: usize,
     wrong: usize,
 }
 
-fn try_bad(file: &mut impl Read) -> Blamed
-    ensures { result.wrong ≤ 1 }
+// None where the file has ended.
+fn try_bad(file: &mut impl Read) -> Option<Blamed>
+    ensures { IfSome result (λ t. t.wrong ≤ 1) }
 {
-    let head = files::number(file);
-    let size = files::number(file);
+    let record = files::number(file)?;
+    let size = files::number(file)?;
     let mut space = files::space();
-    let n = files::bytes(file, size.n, &mut space);
+    let n = files::bytes(file, size, &mut space);
     let r = saved::load(&space[..n]);
-    let right = !r.good & ((r.record == head.n) & (n == size.n));
-    Blamed {
-        there: head.there,
+    let right = !r.good & ((r.record == record) & (n == size));
+    Some(Blamed {
         record: r.record,
         wrong: one_if(!right),
-    }
-}
-
-// One more, held at the most.
-fn more(n: usize) -> usize {
-    if n < MOST {
-        return n + 1;
-    }
-    n
+    })
 }
 
 fn blame(table: &mut [usize; 449], record: usize) {
-    if record < 449 {
-        table[record] = more(table[record]);
+    if let Some(images) = table.get_mut(record) {
+        *images = images.saturating_add(1);
     }
 }
 
 fn blame_all(file: &mut impl Read, table: &mut [usize; 449]) -> Tally {
-    let mut images: usize = 0;
-    let mut wrong: usize = 0;
-    while images < MOST {
-        let t = try_bad(file);
-        if !t.there {
-            return Tally {
-                images,
-                records: 0,
-                wrong,
-            };
-        }
-        images += 1;
-        wrong += t.wrong;
+    let mut all = Tally {
+        images: 0,
+        records: 0,
+        wrong: 0,
+    };
+    for images in 1..=MOST {
+        let Some(t) = try_bad(file) else {
+            return all;
+        };
+        all = Tally {
+            images,
+            records: 0,
+            wrong: all.wrong + t.wrong,
+        };
         blame(table, t.record);
     }
-    Tally {
-        images,
-        records: 0,
-        wrong,
-    }
+    all
 }
 
 fn show_table(rt: &impl Print, table: &[usize; 449]) {
-    let mut k: usize = 0;
-    while k < 449 {
-        show_blame(rt, k, table[k]);
-        k += 1;
+    for (record, images) in table.iter().enumerate() {
+        if *images != 0 {
+            let _ = println!(rt; "record {record}: {images}");
+        }
     }
-}
-
-fn show_blame(rt: &impl Print, record: usize, images: usize) {
-    if images == 0 {
-        return;
-    }
-    text(rt, b"record ");
-    number(rt, record);
-    text(rt, b": ");
-    number(rt, images);
-    text(rt, b"\n");
 }
 
 // The images of a file; one that cannot be opened has none.
-fn blamed_in(rt: &impl Files, file: &[u8], table: &mut [usize; 449]) -> Tally {
-    let Ok(path) = str::from_utf8(file) else {
-        return blame_all(&mut io::empty(), table);
-    };
-    match fs::open(rt, path) {
+fn blamed_in(rt: &impl Files, file: &str, table: &mut [usize; 449]) -> Tally {
+    match fs::open(rt, file) {
         Ok(mut images) => blame_all(&mut images, table),
         Err(_) => blame_all(&mut io::empty(), table),
     }
 }
 
-pub fn bad(rt: &(impl Files + Print), name: &[u8], file: &[u8]) {
-    let mut table = [0usize; 449];
+pub fn bad(rt: &(impl Files + Print), name: &str, file: &str) {
+    let mut table = [0; 449];
     let t = blamed_in(rt, file, &mut table);
-    text(rt, name);
-    text(rt, b": ");
-    number(rt, t.images);
-    text(rt, b" images, ");
-    number(rt, t.wrong);
-    text(rt, b" wrong\n");
+    let _ = println!(rt; "{name}: {} images, {} wrong", t.images, t.wrong);
     show_table(rt, &table);
 }

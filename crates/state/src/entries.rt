@@ -30,20 +30,7 @@ pub fn no_entries() -> Log
 pub fn message_count(messages: u32) -> usize
     ensures { (result ≡ length (members messages)) × (result ≤ 32) }
 {
-    let mut left = messages;
-    let mut found: usize = 0;
-    let mut i: usize = 0;
-    while i < 32 {
-        if left % 2 == 1 {
-            found += 1;
-            left = left / 2;
-            i += 1;
-        } else {
-            left = left / 2;
-            i += 1;
-        }
-    }
-    found
+    messages.count_ones() as usize
 }
 
 // The messages logged for the user, once each, ascending; there is room for them.
@@ -54,20 +41,12 @@ pub fn logged(log: Log, user: u8, messages: u32) -> Log
     let mut out = log;
     let mut at = log.count;
     let mut left = messages;
-    let mut m: u8 = 0;
-    while m < 32 {
+    for m in 0..32u8 {
         if left % 2 == 1 {
-            out.entries[at] = Entry {
-                user: user,
-                message: m,
-            };
+            out.entries[at] = Entry { user, message: m };
             at += 1;
-            left = left / 2;
-            m += 1;
-        } else {
-            left = left / 2;
-            m += 1;
         }
+        left /= 2;
     }
     out.count = at;
     out
@@ -97,12 +76,9 @@ fn put_entries(log: Log, out: &mut [u8])
     requires { LogSound log × (2 * log.count ≤ length out.old) }
     ensures { out.new ≡ run.written (run.log_bytes (view_log log)) out.old }
 {
-    let n = log.count;
-    let mut i: usize = 0;
-    while i < n {
-        let e = log.entries[i];
+    let held = &log.entries[..log.count];
+    for (i, e) in held.iter().enumerate() {
         out[2 * i] = e.user;
         out[2 * i + 1] = e.message;
-        i += 1;
     }
 }

@@ -4,6 +4,3 @@ use Rattle.bounds.proofs.fill.chain.Given as goal
 
 abbrev pub invariant-loop-n : goal.invariant-loop-n
 invariant-loop-n l = NodesSound l.all
-
-abbrev pub decreases-loop-n : goal.decreases-loop-n
-decreases-loop-n l = l.n

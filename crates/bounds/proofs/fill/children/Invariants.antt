@@ -4,6 +4,3 @@ use Rattle.bounds.proofs.fill.children.Given as goal
 
 abbrev pub invariant-loop-k : goal.invariant-loop-k
 invariant-loop-k l = NodesSound l.all
-
-abbrev pub decreases-loop-k : goal.decreases-loop-k
-decreases-loop-k l = l.k

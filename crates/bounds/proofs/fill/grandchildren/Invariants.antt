@@ -5,6 +5,3 @@ use Rattle.bounds.proofs.fill.grandchildren.Given as goal
 
 abbrev pub invariant-loop-k : goal.invariant-loop-k
 invariant-loop-k l = (l.k ≤ 26) × NodesSound l.all
-
-abbrev pub decreases-loop-k : goal.decreases-loop-k
-decreases-loop-k l = l.k

@@ -5,6 +5,3 @@ use Rattle.bounds.proofs.fill.names.Given as goal
 
 abbrev pub invariant-loop-name : goal.invariant-loop-name
 invariant-loop-name l = (l.name ≤ 100) × AttributesSound l.all
-
-abbrev pub decreases-loop-name : goal.decreases-loop-name
-decreases-loop-name l = l.name

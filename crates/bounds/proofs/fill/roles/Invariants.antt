@@ -5,6 +5,3 @@ use Rattle.bounds.proofs.fill.roles.Given as goal
 
 abbrev pub invariant-loop-role : goal.invariant-loop-role
 invariant-loop-role l = (l.role ≤ 15) × PermissionsSound l.all
-
-abbrev pub decreases-loop-role : goal.decreases-loop-role
-decreases-loop-role l = l.role

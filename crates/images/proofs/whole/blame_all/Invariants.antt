@@ -1,9 +1,6 @@
 -- `images::whole::blame_all` is safe: no more wrong answers than images. Assumes nothing.
-use Prim.Native.Nat.{◌-◌, ◌≤◌}
+use Prim.Native.Nat.{◌≤◌}
 use Rattle.images.proofs.whole.blame_all.Given as goal
 
 abbrev pub invariant-loop-images : goal.invariant-loop-images
-invariant-loop-images g l = (l.images ≤ 100000) × (l.wrong ≤ l.images)
-
-abbrev pub decreases-loop-images : goal.decreases-loop-images
-decreases-loop-images g l = 100000 - l.images
+invariant-loop-images g l = l.all.wrong ≤ l.images

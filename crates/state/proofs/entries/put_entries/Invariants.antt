@@ -1,6 +1,6 @@
 -- `state::entries::put_entries` meets its contract: the entries still to come are put behind those that are written. Assumes nothing.
 use mathlib.Core.Path.{◌≡◌}
-use Prim.Native.Nat.{◌≤◌, ◌-◌, ◌*◌}
+use Prim.Native.Nat.{◌*◌}
 use lib.ListN.{length, drop}
 use Rattle.laws.specs.Slots.{put}
 use Rattle.model.specs.Run.{written, log_bytes}
@@ -9,9 +9,5 @@ use Rattle.state.proofs.entries.put_entries.Given as goal
 
 abbrev pub invariant-loop-i : goal.invariant-loop-i
 invariant-loop-i l =
-    (l.i ≤ l.n)
-    × (length l.out ≡ length l.initial.out)
-    × (written (log_bytes (view_log l.log)) l.initial.out ≡ put l.out (2 * l.i) (log_bytes (drop l.i (view_log l.log))))
-
-abbrev pub decreases-loop-i : goal.decreases-loop-i
-decreases-loop-i l = l.n - l.i
+    (length l.out ≡ length l.initial.out)
+    × (written (log_bytes (view_log l.fn.log)) l.initial.out ≡ put l.out (2 * l.i) (log_bytes (drop l.i (view_log l.fn.log))))
