@@ -16,6 +16,7 @@ use Rattle.model.specs.Image.{Loaded, bad, good}
 use Rattle.model.specs.Run as run
 use Rattle.model.specs.Run.{Call, start, new, load, save, save_clipboard, sign, take_log, request, ask, step}
 use Rattle.state.specs.declared.refusal.Refusal.{Refusal}
+use Rattle.state.specs.declared.refusal.Refusal.TheVariants.{BadOperand, AtRoot, Absent, NameTaken, WrongClipboard, NotGranted, NotCovered, Clashes, ShortBuffer, Unsigned, LogFull, BadImage, BadRecord, NodesFull, TooDeep, ChildrenFull, AttributesFull, PermissionsFull}
 use Rattle.state.specs.Refusals.{number_of, table, numbered, first_with, refusal_of}
 use Rattle.state.specs.View.{answer_of, number_in}
 
@@ -32,6 +33,28 @@ first_back n (r ∷ l) h = first_by n r l (first_back n l) (eqb n (number_of r))
 pub number_back : (n : ℕ) → T (numbered n) → number_of (refusal_of n) ≡ n
 unfolding refusal_of
 number_back n h = first_back n table h
+
+-- a refusal is that of its number, but for 12's record
+pub refusal_back : (e : Refusal) → (number_of e ≡ 12 → ⊥) → refusal_of (number_of e) ≡ e
+unfolding refusal_of
+refusal_back BadOperand h = refl
+refusal_back AtRoot h = refl
+refusal_back Absent h = refl
+refusal_back NameTaken h = refl
+refusal_back WrongClipboard h = refl
+refusal_back NotGranted h = refl
+refusal_back NotCovered h = refl
+refusal_back Clashes h = refl
+refusal_back ShortBuffer h = refl
+refusal_back Unsigned h = refl
+refusal_back LogFull h = refl
+refusal_back BadImage h = refl
+refusal_back (BadRecord k) h = absurd (h refl)
+refusal_back NodesFull h = refl
+refusal_back TooDeep h = refl
+refusal_back ChildrenFull h = refl
+refusal_back AttributesFull h = refl
+refusal_back PermissionsFull h = refl
 
 -- ---- the numbers that the model refuses with
 abbrev pub Numbered : run.Answer → Type 0
