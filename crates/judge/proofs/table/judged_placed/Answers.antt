@@ -4,25 +4,25 @@ use Rattle.judge.proofs.Order.{refused_2, refused_3, refused_4, refused_5, refus
 use Rattle.judge.proofs.table.judged_placed.Goals as goal
 
 pub returns-then-root : goal.returns-then-root
-returns-then-root c = let a = c.args in refused_2 a.s a.c a.signed a.entries a.q (sym c.at_root-root.ensures ∙ c.if-root.true)
+returns-then-root c = let a = c.args in refused_2 a.s a.c a.signed a.entries a.q (cc c.at_root-root.ensures)
 
 pub returns-then-gone : goal.returns-then-gone
 returns-then-gone c =
-    let a = c.args in refused_3 a.s a.c a.signed a.entries a.q (sym c.at_root-root.ensures ∙ c.if-root.false) (sym c.absent-gone.ensures ∙ c.if-gone.true)
+    let a = c.args in refused_3 a.s a.c a.signed a.entries a.q (cc c.at_root-root.ensures) (cc c.absent-gone.ensures)
 
 pub returns-then-there : goal.returns-then-there
 returns-then-there c =
     let a = c.args in
-    refused_4 a.s a.c a.signed a.entries a.q (sym c.at_root-root.ensures ∙ c.if-root.false) (sym c.absent-gone.ensures ∙ c.if-gone.false) (sym c.taken-there.ensures ∙ c.if-there.true)
+    refused_4 a.s a.c a.signed a.entries a.q (cc c.at_root-root.ensures) (cc c.absent-gone.ensures) (cc c.taken-there.ensures)
 
 pub returns-then-other : goal.returns-then-other
 returns-then-other c =
     let a = c.args in
-    refused_5 a.s a.c a.signed a.entries a.q (sym c.at_root-root.ensures ∙ c.if-root.false) (sym c.absent-gone.ensures ∙ c.if-gone.false) (sym c.taken-there.ensures ∙ c.if-there.false)
-    (sym c.wrong_clipboard-other.ensures ∙ c.if-other.true)
+    refused_5 a.s a.c a.signed a.entries a.q (cc c.at_root-root.ensures) (cc c.absent-gone.ensures) (cc c.taken-there.ensures)
+    (cc c.wrong_clipboard-other.ensures)
 
 pub returns-then-denied : goal.returns-then-denied
 returns-then-denied c =
     let a = c.args in
-    refused_6 a.s a.c a.signed a.entries a.q (sym c.at_root-root.ensures ∙ c.if-root.false) (sym c.absent-gone.ensures ∙ c.if-gone.false) (sym c.taken-there.ensures ∙ c.if-there.false)
-    (sym c.wrong_clipboard-other.ensures ∙ c.if-other.false) (sym c.is_denied-denied.ensures ∙ c.if-denied.true)
+    refused_6 a.s a.c a.signed a.entries a.q (cc c.at_root-root.ensures) (cc c.absent-gone.ensures) (cc c.taken-there.ensures)
+    (cc c.wrong_clipboard-other.ensures) (cc c.is_denied-denied.ensures)
