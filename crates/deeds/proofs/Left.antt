@@ -22,9 +22,8 @@ use Rattle.tables.specs.View.{view_dossier, dossier_of, DossierSound, view_clipb
 use Rattle.tables.proofs.Rows.{view_clipboard_lem}
 use Rattle.state.specs.declared.Log.{Log}
 use Rattle.state.specs.declared.Session.{Session}
-use Rattle.state.specs.declared.Answer.{Answer}
 use Rattle.state.specs.declared.Stepped.{Stepped}
-use Rattle.state.specs.View.{view_session, session_of, view_log, log_of, answer_of, SessionSound}
+use Rattle.state.specs.View.{view_session, session_of, view_log, log_of, Answer, answer_of, SessionSound}
 use Rattle.state.specs.Calls.{LogSound}
 use Rattle.state.specs.Parts.{numbered_in}
 use Rattle.state.proofs.Signing.{rows_back}

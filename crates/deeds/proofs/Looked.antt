@@ -13,14 +13,14 @@ use Rattle.tables.specs.declared.Found.TheVariants.{Absent, Present}
 use Rattle.tables.specs.View.{view_value, found_of}
 use Rattle.tables.proofs.Rows.{value_back}
 use Rattle.attributes.proofs.Values.{attribute_found}
-use Rattle.state.specs.declared.Outcome.TheVariants.{Done, ValueRead}
-use Rattle.state.specs.declared.Answer.{Answer}
-use Rattle.state.specs.View.{plain_of, answer_of}
+use Rattle.std.specs.Prelude.{Ok}
+use Rattle.state.specs.declared.Reply.TheVariants.{Done, ValueRead}
+use Rattle.state.specs.View.{Answer, answer_of}
 
 -- ---- its value
 abbrev pub value_found : Found → Answer
-value_found Absent = plain_of Done
-value_found (Present owner v) = plain_of (ValueRead v)
+value_found Absent = Ok Done
+value_found (Present owner v) = Ok (ValueRead v)
 
 pub value_found_lem : (o : Option Attribute) → value_found (found_of o) ≡ answer_of (run.value_of o)
 value_found_lem none = refl

@@ -2,31 +2,76 @@
 use mathlib.Core.Path.{◌≡◌, refl, sym, ap, subst, ◌∙◌}
 use mathlib.Core.Bool.{Bool, true, false, ◌||◌}
 use mathlib.Core.Logic.{◌⊎◌, inl, inr, ⊎_elim}
-use mathlib.Core.List.{List, [], ◌∷◌}
+use mathlib.Core.List.{List, [], ◌∷◌, map}
 use Prim.Native.Nat.{ℕ}
-use lib.Dec.{T, eqb, ltb, eqb→eq, eqb_refl}
+use native.Mathlib.Omega.{arith}
+use Rattle.std.specs.Prelude.{Option, Some, None}
+use lib.Dec.{T, eqb, eqb→eq, eqb_refl}
 use borrow.Author.Tests.{eqb-true, eqb-false}
 use Rattle.laws.specs.Slots.{pick, All}
 use Rattle.path.proofs.Structs.{no}
 use Rattle.model.specs.Refusals.{Request, among, choose}
 use Rattle.twin.proofs.Requests.{numbered}
+use Rattle.deeds.specs.declared.classes.Class.{Class}
+use Rattle.deeds.specs.declared.classes.Class.TheVariants.{Read, ChangeAttributes, ChangePermissions, Edit, Paste, Copy, Cut}
 use Rattle.deeds.specs.Classes.{classes, class_of}
 
--- the rows of a class in a table of classes
-abbrev pub rows_of : ℕ → List (List ℕ × ℕ) → List (List ℕ)
-rows_of c [] = []
-rows_of c (row ∷ l) = pick (eqb row.1 c) (row.0 ∷ rows_of c l) (rows_of c l)
+-- ---- the classes told apart, by a number for each
+abbrev pub code : Class → ℕ
+code Read = 1
+code ChangeAttributes = 2
+code ChangePermissions = 3
+code Edit = 4
+code Paste = 5
+code Copy = 6
+code Cut = 7
 
--- a class that there is, and what holds of each of its numbers
-abbrev pub Numbers : (ℕ → Type 0) → ℕ → Type 0
-Numbers F c = T (ltb 0 c) × All (λ l. All F l) (rows_of c classes)
+abbrev coded : Option Class → ℕ
+coded None = 0
+coded (Some c) = code c
+
+abbrev decode : ℕ → Class
+decode n =
+    pick (eqb n 1) Read
+    (pick (eqb n 2) ChangeAttributes (pick (eqb n 3) ChangePermissions (pick (eqb n 4) Edit (pick (eqb n 5) Paste (pick (eqb n 6) Copy Cut)))))
+
+decoded : (c : Class) → decode (code c) ≡ c
+decoded Read = refl
+decoded ChangeAttributes = refl
+decoded ChangePermissions = refl
+decoded Edit = refl
+decoded Paste = refl
+decoded Copy = refl
+decoded Cut = refl
+
+no_class : (c : Class) → 0 ≡ code c → ⊥
+no_class Read e = omega arith
+no_class ChangeAttributes e = omega arith
+no_class ChangePermissions e = omega arith
+no_class Edit e = omega arith
+no_class Paste e = omega arith
+no_class Copy e = omega arith
+no_class Cut e = omega arith
+
+-- whether a class is one of these
+abbrev pub within : Class → List Class → Bool
+within c l = among (code c) (map code l)
+
+-- the rows of a class in a table of classes
+abbrev pub rows_of : Class → List (List ℕ × Option Class) → List (List ℕ)
+rows_of c [] = []
+rows_of c (row ∷ l) = pick (eqb (coded row.1) (code c)) (row.0 ∷ rows_of c l) (rows_of c l)
+
+-- what holds of each number of a class
+abbrev pub Numbers : (ℕ → Type 0) → Class → Type 0
+Numbers F c = All (λ l. All F l) (rows_of c classes)
 
 -- for a class of two numbers, and of three
-pub two : {A B : Type 0} → A → B → Unit {0} × ((A × (B × Unit {0})) × Unit {0})
-two a b = (tt, ((a, (b, tt)), tt))
+pub two : {A B : Type 0} → A → B → (A × (B × Unit {0})) × Unit {0}
+two a b = ((a, (b, tt)), tt)
 
-pub three : {A B C : Type 0} → A → B → C → Unit {0} × ((A × (B × (C × Unit {0}))) × Unit {0})
-three a b c = (tt, ((a, (b, (c, tt))), tt))
+pub three : {A B C : Type 0} → A → B → C → (A × (B × (C × Unit {0}))) × Unit {0}
+three a b c = ((a, (b, (c, tt))), tt)
 
 one_of : (F : ℕ → Type 0) (n : ℕ) (l : List ℕ) → All F l → T (among n l) → F n
 one_of F n [] a t = absurd t
@@ -36,40 +81,48 @@ one_of F n (k ∷ l) a t = go (eqb n k) (λ s. subst F (sym (eqb→eq n k s)) a.
     go true f g s = f tt
     go false f g s = g s
 
-by_row : (F : ℕ → Type 0) (n c : ℕ) → T (ltb 0 c) → (l : List (List ℕ × ℕ)) → All (λ m. All F m) (rows_of c l) → choose n 0 l ≡ c → F n
-by_row F n c p [] a e = absurd (subst (λ (k : ℕ). T (ltb 0 k)) (sym e) p)
-by_row F n c p (row ∷ l) a e = go (among n row.0) (eqb row.1 c) (λ s. subst (λ (k : ℕ). T (eqb row.1 k)) s (eqb_refl row.1)) (one_of F n row.0) (by_row F n c p l) a e
+by_row : (F : ℕ → Type 0) (n : ℕ) (c : Class) → (l : List (List ℕ × Option Class)) → All (λ m. All F m) (rows_of c l) → choose n None l ≡ Some c → F n
+by_row F n c [] a e = absurd (let z : ◌≡◌ {A = ℕ} 0 (code c) = ap coded e in no_class c z)
+by_row F n c (row ∷ l) a e = go (among n row.0) (eqb (coded row.1) (code c)) (λ s. subst (λ (k : Option Class). T (eqb (coded row.1) (coded k))) s (eqb_refl (coded row.1))) (one_of F n row.0) (by_row F n c l) a e
   where
-    go : (x y : Bool) → (row.1 ≡ c → T y) → (All F row.0 → T x → F n) → (All (λ m. All F m) (rows_of c l) → choose n 0 l ≡ c → F n)
-        → All (λ m. All F m) (pick y (row.0 ∷ rows_of c l) (rows_of c l)) → pick x row.1 (choose n 0 l) ≡ c → F n
+    go : (x y : Bool) → (row.1 ≡ Some c → T y) → (All F row.0 → T x → F n) → (All (λ m. All F m) (rows_of c l) → choose n None l ≡ Some c → F n)
+        → All (λ m. All F m) (pick y (row.0 ∷ rows_of c l) (rows_of c l)) → pick x row.1 (choose n None l) ≡ Some c → F n
     go true true s f g a e = f a.0 tt
     go true false s f g a e = absurd (s e)
     go false true s f g a e = g a.1 e
     go false false s f g a e = g a e
 
-pub by_class : (F : ℕ → Type 0) (n : ℕ) {c : ℕ} → class_of n ≡ c → Numbers F c → F n
-by_class F n {c} e a = by_row F n c a.0 classes a.1 e
+pub by_class : (F : ℕ → Type 0) (n : ℕ) {c : Class} → class_of n ≡ Some c → Numbers F c → F n
+by_class F n {c} e a = by_row F n c classes a e
 
 -- the same where the class is one of several
-pub by_classes : (F : ℕ → Type 0) (n : ℕ) {c : ℕ} (l : List ℕ) → T (among c l) → class_of n ≡ c → All (Numbers F) l → F n
-by_classes F n {c} l t e a = one_of (λ k. class_of n ≡ k → F n) c l (each l a) t e
+one_class : (G : Class → Type 0) (c : Class) (l : List Class) → All G l → T (within c l) → G c
+one_class G c [] a t = absurd t
+one_class G c (k ∷ l) a t = go (eqb (code c) (code k)) (λ s. subst G (sym (sym (decoded c) ∙ ap decode (eqb→eq (code c) (code k) s) ∙ decoded k)) a.0) (one_class G c l a.1) t
   where
-    each : (m : List ℕ) → All (Numbers F) m → All (λ k. class_of n ≡ k → F n) m
+    go : (b : Bool) → (T b → G c) → (T (within c l) → G c) → T (b || within c l) → G c
+    go true f g s = f tt
+    go false f g s = g s
+
+pub by_classes : (F : ℕ → Type 0) (n : ℕ) {c : Class} (l : List Class) → T (within c l) → class_of n ≡ Some c → All (Numbers F) l → F n
+by_classes F n {c} l t e a = one_class (λ k. class_of n ≡ Some k → F n) c l (each l a) t e
+  where
+    each : (m : List Class) → All (Numbers F) m → All (λ k. class_of n ≡ Some k → F n) m
     each [] b = tt
     each (k ∷ m) b = ((λ f. by_class F n f b.0), each m b.1)
 
 -- ---- the numbers that are left where a function has gone by others
 module _ {n : ℕ} where
-  pub not_eight : class_of n ≡ 2 → (n ≡ 8 → ⊥) → n ≡ 10
+  pub not_eight : class_of n ≡ Some ChangeAttributes → (n ≡ 8 → ⊥) → n ≡ 10
   not_eight e = by_class (λ k. (k ≡ 8 → ⊥) → k ≡ 10) n e (two (λ f. absurd (f refl)) (λ f. refl))
 
-  pub not_fifteen : class_of n ≡ 3 → (n ≡ 15 → ⊥) → (n ≡ 14) ⊎ (n ≡ 16)
+  pub not_fifteen : class_of n ≡ Some ChangePermissions → (n ≡ 15 → ⊥) → (n ≡ 14) ⊎ (n ≡ 16)
   not_fifteen e = by_class (λ k. (k ≡ 15 → ⊥) → (k ≡ 14) ⊎ (k ≡ 16)) n e (three (λ f. inl refl) (λ f. absurd (f refl)) (λ f. inr refl))
 
-  pub not_thirteen : class_of n ≡ 5 → (n ≡ 13 → ⊥) → (n ≡ 7) ⊎ (n ≡ 17)
+  pub not_thirteen : class_of n ≡ Some Paste → (n ≡ 13 → ⊥) → (n ≡ 7) ⊎ (n ≡ 17)
   not_thirteen e = by_class (λ k. (k ≡ 13 → ⊥) → (k ≡ 7) ⊎ (k ≡ 17)) n e (three (λ f. inl refl) (λ f. absurd (f refl)) (λ f. inr refl))
 
-  pub no_branch : (class_of n ≡ 4) ⊎ (class_of n ≡ 7) → (n ≡ 3 → ⊥) → ((n ≡ 4) ⊎ (n ≡ 6) → ⊥) → (n ≡ 9) ⊎ (n ≡ 12)
+  pub no_branch : (class_of n ≡ Some Edit) ⊎ (class_of n ≡ Some Cut) → (n ≡ 3 → ⊥) → ((n ≡ 4) ⊎ (n ≡ 6) → ⊥) → (n ≡ 9) ⊎ (n ≡ 12)
   no_branch e =
       ⊎_elim
       (λ h. by_class F n h (three (λ f g. absurd (f refl)) (λ f g. absurd (g (inl refl))) (λ f g. inl refl)))
@@ -79,7 +132,7 @@ module _ {n : ℕ} where
       F : ℕ → Type 0
       F k = (k ≡ 3 → ⊥) → ((k ≡ 4) ⊎ (k ≡ 6) → ⊥) → (k ≡ 9) ⊎ (k ≡ 12)
 
-  pub no_branch_copied : (class_of n ≡ 6) ⊎ (class_of n ≡ 7) → ((n ≡ 5) ⊎ (n ≡ 6) → ⊥) → (n ≡ 11) ⊎ (n ≡ 12)
+  pub no_branch_copied : (class_of n ≡ Some Copy) ⊎ (class_of n ≡ Some Cut) → ((n ≡ 5) ⊎ (n ≡ 6) → ⊥) → (n ≡ 11) ⊎ (n ≡ 12)
   no_branch_copied e =
       ⊎_elim
       (λ h. by_class F n h (two (λ f. absurd (f (inl refl))) (λ f. inl refl)))

@@ -1,25 +1,26 @@
 -- The requests by what they do to a session, and what is asked of one that is carried out on the dossier that it names alone.
-use Rattle.std.specs.Prelude.{◌≡◌, List, [], ◌∷◌, ℕ}
+use Rattle.std.specs.Prelude.{◌≡◌, List, [], ◌∷◌, ℕ, Option, Some, None}
 use Rattle.std.proofs.Math.Option.{none}
 use Rattle.model.specs.Things.{Dossier, Clipboard}
 use Rattle.model.specs.Refusals.{Request, choose, Standing, refusal}
 use Rattle.model.specs.Run.{found, cached}
+use Rattle.deeds.specs.declared.classes.Class.{Class}
+use Rattle.deeds.specs.declared.classes.Class.TheVariants.{Read, ChangeAttributes, ChangePermissions, Edit, Paste, Copy, Cut}
 
--- 1 reads, 2 changes attributes, 3 changes permissions, 4 edits, 5 pastes, 6 copies, 7 cuts: copies, then edits
-abbrev pub classes : List (List ℕ × ℕ)
+abbrev pub classes : List (List ℕ × Option Class)
 classes =
-    (1 ∷ 2 ∷ [], 1)
-    ∷ (8 ∷ 10 ∷ [], 2)
-    ∷ (14 ∷ 15 ∷ 16 ∷ [], 3)
-    ∷ (3 ∷ 4 ∷ 9 ∷ [], 4)
-    ∷ (7 ∷ 13 ∷ 17 ∷ [], 5)
-    ∷ (5 ∷ 11 ∷ [], 6)
-    ∷ (6 ∷ 12 ∷ [], 7)
+    (1 ∷ 2 ∷ [], Some Read)
+    ∷ (8 ∷ 10 ∷ [], Some ChangeAttributes)
+    ∷ (14 ∷ 15 ∷ 16 ∷ [], Some ChangePermissions)
+    ∷ (3 ∷ 4 ∷ 9 ∷ [], Some Edit)
+    ∷ (7 ∷ 13 ∷ 17 ∷ [], Some Paste)
+    ∷ (5 ∷ 11 ∷ [], Some Copy)
+    ∷ (6 ∷ 12 ∷ [], Some Cut)
     ∷ []
 
--- 0 for a number that no request has
-abbrev pub class_of : ℕ → ℕ
-class_of n = choose n 0 classes
+-- none for a number that no request has
+abbrev pub class_of : ℕ → Option Class
+class_of n = choose n None classes
 
 -- no row of the refusal table applies, for some standing of the user
 pub record Allowed (r : Request) (d : Dossier) (c : Clipboard) : Type 0 where

@@ -1,6 +1,6 @@
 // What a judged request does, by its class: a function is given the dossier that the request names, and gives back only what changes. In each
 // function a callee has one call site: it is inlined there, and no table is copied for it.
-ghost use Rattle.std.specs.Prelude.{◌≡◌, ◌⊎◌, ◌+◌, ◌≤◌, T, length};
+ghost use Rattle.std.specs.Prelude.{◌≡◌, ◌⊎◌, ◌+◌, ◌≤◌, T, length, Some};
 ghost use Rattle.path.specs.Address.{valid};
 ghost use Rattle.path.specs.View.{asked};
 ghost use Rattle.model.specs.Things as things;
@@ -11,22 +11,33 @@ ghost use Rattle.model.specs.Run.{found, cached};
 ghost use Rattle.tables.specs.View.{ClipboardSound, DossierSound, clipboard_of, dossier_of, view_clipboard, view_dossier};
 ghost use Rattle.state.specs.View.{answer_of, log_of, view_log, view_request};
 ghost use Rattle.state.specs.Calls.{LogSound};
+ghost use Rattle.deeds.specs.declared.classes.Class.TheVariants.{ChangeAttributes, ChangePermissions, Copy, Cut, Edit, Paste};
 ghost use Rattle.deeds.specs.Classes.{Allowed, Open, class_of};
 
 use crate::requests::{copy_attribute, copy_branch, read_attribute, read_node};
 use edits::{add_node, delete_attribute, delete_branch, paste_attribute, paste_branch};
 use refusals::place::placed;
 use state::entries::logged;
-use state::{Answer, Log, Outcome, Request, plain};
+use state::{Answer, Log, Reply, Request};
 use tables::{Attribute, Attributes, Clipboard, Dossier, Permission, Permissions};
 
-// A request that was judged: what it does (0: nothing, it is refused), the dossier that it names, its refusal, the messages to log, and the
-// request.
+// What a request does. A cut copies, then edits.
+#[derive(Clone, Copy)]
+pub enum Class {
+    Read,
+    ChangeAttributes,
+    ChangePermissions,
+    Edit,
+    Paste,
+    Copy,
+    Cut,
+}
+
+// A request that was judged and not refused: what it does, the dossier that it names, the messages to log, and the request.
 #[derive(Clone, Copy)]
 pub struct Verdict {
-    pub class: u8,
+    pub class: Class,
     pub dossier: u8,
-    pub refusal: u8,
     pub messages: u32,
     pub request: Request,
 }
@@ -50,23 +61,22 @@ pub struct PermissionsOut {
     pub permissions: Permissions,
 }
 
-// What a request of that number does: 1 reads, 2 changes attributes, 3 changes permissions, 4 edits, 5 pastes, 6 copies, 7 cuts (copies, then
-// edits); 0 for a number that no request has. An arm each for numbers that follow one another.
-pub fn class_of(number: u8) -> u8
+// What a request of that number does, if there is one. An arm each for numbers that follow one another.
+pub fn class_of(number: u8) -> Option<Class>
     ensures { result ≡ class_of number }
 {
     match number {
-        1 => 1,
-        2 => 1,
-        8 | 10 => 2,
-        14 | 16 => 3,
-        15 => 3,
-        3 | 9 => 4,
-        4 => 4,
-        7 | 13 | 17 => 5,
-        5 | 11 => 6,
-        6 | 12 => 7,
-        _ => 0,
+        1 => Some(Class::Read),
+        2 => Some(Class::Read),
+        8 | 10 => Some(Class::ChangeAttributes),
+        14 | 16 => Some(Class::ChangePermissions),
+        15 => Some(Class::ChangePermissions),
+        3 | 9 => Some(Class::Edit),
+        4 => Some(Class::Edit),
+        7 | 13 | 17 => Some(Class::Paste),
+        5 | 11 => Some(Class::Copy),
+        6 | 12 => Some(Class::Cut),
+        _ => None,
     }
 }
 
@@ -82,13 +92,13 @@ pub fn read_at(d: Dossier, v: Verdict) -> Answer
     match number {
         1 => read_node(d, q),
         2 => read_attribute(d, q),
-        _ => plain(Outcome::Done),
+        _ => Ok(Reply::Done),
     }
 }
 
 // Request 8, an attribute that belongs to the adding user, and 10, another value: the table of attributes alone changes.
 pub fn attributes_at(d: Dossier, v: Verdict) -> AttributesOut
-    requires { DossierSound d × T (valid (asked v.request.path)) × Open (view_request v.request) (view_dossier d) × (class_of v.request.number ≡ 2) }
+    requires { DossierSound d × T (valid (asked v.request.path)) × Open (view_request v.request) (view_dossier d) × (class_of v.request.number ≡ Some ChangeAttributes) }
     ensures { result ≡ record { dossier = v.dossier; attributes = (dossier_of (run.edited (view_request v.request) (view_dossier d) things.empty)).attributes } }
 {
     let q = placed(v.request);
@@ -114,7 +124,7 @@ pub fn attributes_at(d: Dossier, v: Verdict) -> AttributesOut
 
 // Requests 14 and 16, one permission more, and 15, the exact one less: the table of permissions alone changes.
 pub fn permissions_at(d: Dossier, v: Verdict) -> PermissionsOut
-    requires { DossierSound d × T (valid (asked v.request.path)) × Open (view_request v.request) (view_dossier d) × (class_of v.request.number ≡ 3) }
+    requires { DossierSound d × T (valid (asked v.request.path)) × Open (view_request v.request) (view_dossier d) × (class_of v.request.number ≡ Some ChangePermissions) }
     ensures { result ≡ record { dossier = v.dossier; permissions = (dossier_of (run.edited (view_request v.request) (view_dossier d) things.empty)).permissions } }
 {
     let q = placed(v.request);
@@ -141,7 +151,7 @@ pub fn permissions_at(d: Dossier, v: Verdict) -> PermissionsOut
 
 // Requests 3 and 4, and the second half of 6: a branch comes or goes. Request 9, and the second half of 12: an attribute goes.
 pub fn edited_at(d: Dossier, v: Verdict) -> DossierOut
-    requires { DossierSound d × T (valid (asked v.request.path)) × Open (view_request v.request) (view_dossier d) × ((class_of v.request.number ≡ 4) ⊎ (class_of v.request.number ≡ 7)) }
+    requires { DossierSound d × T (valid (asked v.request.path)) × Open (view_request v.request) (view_dossier d) × ((class_of v.request.number ≡ Some Edit) ⊎ (class_of v.request.number ≡ Some Cut)) }
     ensures { result ≡ record { dossier = v.dossier; whole = dossier_of (run.edited (view_request v.request) (view_dossier d) things.empty) } }
 {
     let q = placed(v.request);
@@ -164,7 +174,7 @@ pub fn edited_at(d: Dossier, v: Verdict) -> DossierOut
 
 // Requests 7 and 17, a branch, and 13, an attribute, each from c: the clipboard, or request 17's image as a branch.
 pub fn pasted_at(d: Dossier, c: Clipboard, v: Verdict) -> DossierOut
-    requires { DossierSound d × ClipboardSound c × T (valid (asked v.request.path)) × Allowed (view_request v.request) (view_dossier d) (view_clipboard c) × (class_of v.request.number ≡ 5) × (v.request.number ≡ 17 → T (cached (view_clipboard c)).branch) }
+    requires { DossierSound d × ClipboardSound c × T (valid (asked v.request.path)) × Allowed (view_request v.request) (view_dossier d) (view_clipboard c) × (class_of v.request.number ≡ Some Paste) × (v.request.number ≡ 17 → T (cached (view_clipboard c)).branch) }
     ensures { result ≡ record { dossier = v.dossier; whole = dossier_of (run.edited (view_request v.request) (view_dossier d) (view_clipboard c)) } }
 {
     let q = placed(v.request);
@@ -184,7 +194,7 @@ pub fn pasted_at(d: Dossier, c: Clipboard, v: Verdict) -> DossierOut
 
 // Request 5, and the first half of 6: a branch. Request 11, and the first half of 12: an attribute.
 pub fn copied_at(d: Dossier, v: Verdict) -> Clipboard
-    requires { DossierSound d × T (valid (asked v.request.path)) × Open (view_request v.request) (view_dossier d) × ((class_of v.request.number ≡ 6) ⊎ (class_of v.request.number ≡ 7)) }
+    requires { DossierSound d × T (valid (asked v.request.path)) × Open (view_request v.request) (view_dossier d) × ((class_of v.request.number ≡ Some Copy) ⊎ (class_of v.request.number ≡ Some Cut)) }
     ensures { result ≡ clipboard_of (run.clipped (view_request v.request) (view_dossier d) things.empty) }
 {
     let q = placed(v.request);

@@ -12,7 +12,7 @@ use counts::children_in;
 use edits;
 use lookups::{attribute_in, names_in};
 use refusals::Placed;
-use state::{Answer, Outcome, plain};
+use state::{Answer, Reply};
 use tables::{Attribute, Clipboard, Dossier, Found};
 
 // 1: the names on the node, ascending, and its child count.
@@ -21,10 +21,7 @@ pub fn read_node(d: Dossier, q: Placed) -> Answer
     ensures { result ≡ answer_of (run.contents (model.names_on (steps q.path) (view_dossier d)) (model.child_count (steps q.path) (view_dossier d))) }
 {
     let names = names_in(d.attributes, q.path);
-    Answer {
-        outcome: Outcome::Contents(children_in(d.nodes, q.path)),
-        names: names,
-    }
+    Ok(Reply::Contents(names, children_in(d.nodes, q.path)))
 }
 
 // 2: the attribute's value.
@@ -33,8 +30,8 @@ pub fn read_attribute(d: Dossier, q: Placed) -> Answer
     ensures { result ≡ answer_of (run.value_of (model.attribute_at (steps q.path) q.name (view_dossier d))) }
 {
     match attribute_in(d.attributes, q.path, q.name) {
-        Found::Absent => plain(Outcome::Done),
-        Found::Present(_, v) => plain(Outcome::ValueRead(v)),
+        Found::Absent => Ok(Reply::Done),
+        Found::Present(_, v) => Ok(Reply::ValueRead(v)),
     }
 }
 

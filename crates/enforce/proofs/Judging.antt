@@ -3,7 +3,6 @@ use mathlib.Core.Path.{◌≡◌, refl, sym, ap, subst, ◌∙◌}
 use mathlib.Core.Bool.{not}
 use mathlib.Core.Option.{Option, none, some}
 use Prim.Native.Nat.{ℕ}
-use native.Mathlib.Omega.{arith}
 use lib.Dec.{T, eqb, leb, le→leb, not_T}
 use lib.ListN.{length}
 use mir.Facts.{yes_and, yes_eqb}
@@ -15,13 +14,13 @@ use Rattle.model.specs.Run.{found, cached, standing, dossier}
 use Rattle.tables.specs.declared.Dossier.{Dossier}
 use Rattle.tables.specs.View.{view_dossier}
 use Rattle.state.specs.declared.Session.{Session}
-use Rattle.state.specs.declared.Outcome.TheVariants.{Refused}
-use Rattle.state.specs.View.{view_signatures, view_session, SessionSound, plain_of}
+use Rattle.std.specs.Prelude.{Ok, Err}
+use Rattle.state.specs.declared.refusal.Refusal.{Refusal}
+use Rattle.state.specs.Refusals.{refusal_of}
+use Rattle.state.specs.View.{view_signatures, view_session, SessionSound}
 use Rattle.state.proofs.Logs.{log_count}
 use Rattle.state.proofs.Sessions.{session_back, log_sound}
-use Rattle.judge.specs.declared.Judged.{Judged}
-use Rattle.judge.specs.declared.Judged.TheVariants as told
-use Rattle.judge.specs.View.{standing_of, judged_of}
+use Rattle.judge.specs.View.{standing_of, Judged, judged_of}
 use Rattle.twin.proofs.Refusal.{judged, outcome, refused_by}
 use Rattle.twin.proofs.Requests.{passed, request_common}
 use Rattle.state.specs.Parts.{numbered_in}
@@ -30,13 +29,18 @@ use Rattle.deeds.proofs.Left.{numbered_view}
 use Rattle.enforce.specs.Requests.{left_of, Pastes, from_of}
 
 -- ---- what a verdict says
-says_refused : (o : Option ℕ) (may : Option Provisions) (n : ℕ) → told.Refused n ≡ judged_of o may → o ≡ some n
-says_refused none may n e = absurd (let z : ◌≡◌ {A = ℕ} 0 1 = cc in omega arith)
-says_refused (some k) may n e = cc
+record Says (o : Option ℕ) (e : Refusal) : Type 0 where
+  pub number : ℕ
+  pub is : o ≡ some number
+  pub same : e ≡ refusal_of number
 
-says_allowed : (o : Option ℕ) (may : Option Provisions) (n : ℕ) → told.Allowed n ≡ judged_of o may → (o ≡ none) × (n ≡ (provisions may).messages)
+says_refused : (o : Option ℕ) (may : Option Provisions) (e : Refusal) → Err e ≡ judged_of o may → Says o e
+says_refused none may e h = absurd (cc)
+says_refused (some k) may e h = record { number = k; is = refl; same = cc }
+
+says_allowed : (o : Option ℕ) (may : Option Provisions) (n : ℕ) → Ok n ≡ judged_of o may → (o ≡ none) × (n ≡ (provisions may).messages)
 says_allowed none may n e = (refl, cc)
-says_allowed (some k) may n e = absurd (let z : ◌≡◌ {A = ℕ} 0 1 = cc in omega arith)
+says_allowed (some k) may n e = absurd (cc)
 
 -- a request that is not refused has a path
 pub path_good : (s : things.State) (r : Request) (m : things.Clipboard) → judged s r m ≡ none → T (valid r.path)
@@ -53,12 +57,12 @@ module _ {s : Session} (h : SessionSound s) (r : Request) {d : Dossier} (e : d �
       let n = log_count s.log (log_sound h) in
       told-so ∙ (λ i. judged_of (refusal r (found r (f i)) (cached m) (standing_of r (view_signatures s.signatures) (n i))) (granted r (found r (f i))))
 
-  pub refused_so : {n : ℕ} → told.Refused n ≡ j → record { session = s; answer = plain_of (Refused n) } ≡ from_of s r m
-  refused_so {n} t =
-      let o = says_refused (judged (view_session s) r m) _ n (t ∙ whole_session) in
-      ap (λ (x : Session). record { session = x; answer = plain_of (Refused n) }) (sym (session_back s h)) ∙ ap left_of (sym (refused_by (view_session s) r m n o))
+  pub refused_so : {e : Refusal} → Err e ≡ j → record { session = s; answer = Err e } ≡ from_of s r m
+  refused_so {e} t =
+      let o = says_refused (judged (view_session s) r m) (granted r (found r (dossier r.dossier (view_session s)))) e (t ∙ whole_session) in
+      (λ i. record { session = sym (session_back s h) i; answer = Err (o.same i) }) ∙ ap left_of (sym (refused_by (view_session s) r m o.number o.is))
 
-  pub not_refused : {n : ℕ} → told.Allowed n ≡ j → judged (view_session s) r m ≡ none
+  pub not_refused : {n : ℕ} → Ok n ≡ j → judged (view_session s) r m ≡ none
   not_refused {n} t = (says_allowed (judged (view_session s) r m) _ n (t ∙ whole_session)).0
 
   -- the operands of what is not refused are good, so that request 17 has its branch
@@ -69,7 +73,7 @@ module _ {s : Session} (h : SessionSound s) (r : Request) {d : Dossier} (e : d �
       p (yes_and (eqb r.number 17) (not (bad_operand r)) (yes_eqb n) (not_T (bad_operand r) w.operands))
 
   -- also as the request with its path taken
-  pub served : Pastes r m → {q : Request} → q ≡ r → {n : ℕ} → told.Allowed n ≡ j → Served s m q n
+  pub served : Pastes r m → {q : Request} → q ≡ r → {n : ℕ} → Ok n ≡ j → Served s m q n
   served p f {n} t =
       let w = says_allowed (judged (view_session s) r m) _ n (t ∙ whole_session) in
       subst (λ (x : Request). Served s m x n) (sym f) (record { free = w.0; asks = w.1; branch = pastes p w.0 })

@@ -20,8 +20,9 @@ use Rattle.tables.proofs.Rows.{view_dossier_lem, view_clipboard_lem}
 use Rattle.image.specs.declared.Loaded.{Loaded}
 use Rattle.image.specs.View.{loaded_of}
 use Rattle.state.specs.declared.Session.{Session}
-use Rattle.state.specs.declared.Outcome.TheVariants.{BadRecord}
-use Rattle.state.specs.View.{view_session, SessionSound, plain_of}
+use Rattle.std.specs.Prelude.{Err}
+use Rattle.state.specs.declared.refusal.Refusal.TheVariants.{BadRecord}
+use Rattle.state.specs.View.{view_session, SessionSound}
 use Rattle.state.specs.Calls.{stepped_of}
 use Rattle.state.proofs.Sessions.{session_back}
 use Rattle.twin.proofs.Refusal.{unread}
@@ -31,13 +32,13 @@ use Rattle.enforce.specs.Requests.{from_of, with_of}
 -- ---- an image that was loaded for its user
 module _ (u : ℕ) (h : T (user_good u)) (b : List ℕ) {l : Loaded} (e : l ≡ loaded_of (load_added u b)) where
   -- a bad one: the record alone
-  pub bad_image : (s : Session) (r : Request) → SessionSound s → l.good ≡ false → record { session = s; answer = plain_of (BadRecord l.«record») } ≡ with_of s r (run.as_branch (load_added u b))
+  pub bad_image : (s : Session) (r : Request) → SessionSound s → l.good ≡ false → record { session = s; answer = Err (BadRecord l.«record») } ≡ with_of s r (run.as_branch (load_added u b))
   bad_image s r k f = go (load_added u b) refl
     where
-      go : (o : images.Loaded things.Dossier) → load_added u b ≡ o → record { session = s; answer = plain_of (BadRecord l.«record») } ≡ with_of s r (run.as_branch (load_added u b))
+      go : (o : images.Loaded things.Dossier) → load_added u b ≡ o → record { session = s; answer = Err (BadRecord l.«record») } ≡ with_of s r (run.as_branch (load_added u b))
       go (bad n) q =
           let z = ap (λ (x : Loaded). x.«record») (e ∙ ap loaded_of q) in
-          (λ i. record { session = sym (session_back s k) i; answer = plain_of (BadRecord (z i)) }) ∙ ap (λ (x : images.Loaded things.Dossier). with_of s r (run.as_branch x)) (sym q)
+          (λ i. record { session = sym (session_back s k) i; answer = Err (BadRecord (z i)) }) ∙ ap (λ (x : images.Loaded things.Dossier). with_of s r (run.as_branch x)) (sym q)
       go (good d) q = no (sym (ap (λ (x : Loaded). x.good) (e ∙ ap loaded_of q)) ∙ f)
 
   -- a good one: a sound branch

@@ -1,5 +1,6 @@
 -- A request by what there is to paste, on the structs; what judging makes of it, and what request 17's image is.
-use Rattle.std.specs.Prelude.{Bool, List, [], ◌∷◌, ℕ, T}
+use Rattle.std.specs.Prelude.{Bool, List, [], ◌∷◌, ℕ, T, Option, Some, None, Result, Ok, Err}
+use Rattle.laws.specs.Slots.{pick}
 use Rattle.model.specs.Things as things
 use Rattle.model.specs.Things.{State}
 use Rattle.model.specs.Refusals as refusals
@@ -13,15 +14,14 @@ use Rattle.state.specs.declared.Log.{Log}
 use Rattle.state.specs.declared.Session.{Session}
 use Rattle.state.specs.declared.Request.{Request}
 use Rattle.state.specs.declared.Stepped.{Stepped}
-use Rattle.state.specs.declared.Outcome.TheVariants.{BadRecord}
-use Rattle.state.specs.View.{view_request, view_signatures, view_session, session_of, plain_of, answer_of}
+use Rattle.state.specs.declared.refusal.Refusal.{Refusal}
+use Rattle.state.specs.declared.refusal.Refusal.TheVariants.{BadOperand, BadRecord}
+use Rattle.state.specs.View.{view_request, view_signatures, view_session, session_of, answer_of}
 use Rattle.image.specs.declared.Loaded.{Loaded}
-use Rattle.judge.specs.declared.Judged.{Judged}
-use Rattle.judge.specs.declared.Judged.TheVariants.{Refused, Allowed}
-use Rattle.judge.specs.View.{standing_of, judged_of}
+use Rattle.judge.specs.View.{standing_of, Judged, judged_of}
+use Rattle.deeds.specs.declared.classes.Class.{Class}
 use Rattle.deeds.specs.declared.classes.Verdict.{Verdict}
 use Rattle.deeds.specs.Classes.{class_of}
-use Rattle.enforce.specs.declared.Laden.{Laden}
 
 abbrev pub left_of : State × run.Answer → Stepped
 left_of out = record { session = session_of out.0; answer = answer_of out.1 }
@@ -41,18 +41,23 @@ with_of s r l = left_of (run.requested_with (view_session s) r l)
 abbrev pub pasting : ℕ → Bool
 pasting n = refusals.among n (7 ∷ 13 ∷ 17 ∷ [])
 
--- refused, with its number; or its class, with the messages to log
-abbrev pub verdict_of : Request → Judged → Verdict
-verdict_of r (Refused n) = record { class = 0; dossier = r.dossier; refusal = n; messages = 0; request = r }
-verdict_of r (Allowed m) = record { class = class_of r.number; dossier = r.dossier; refusal = 0; messages = m; request = r }
+-- a request of that class, with the messages to log; a number that no request has has none, and is a bad operand
+abbrev pub classed : Request → ℕ → Option Class → Result Verdict Refusal
+classed r m None = Err BadOperand
+classed r m (Some k) = Ok (record { class = k; dossier = r.dossier; messages = m; request = r })
+
+-- refused; or its class, with the messages to log
+abbrev pub verdict_of : Request → Judged → Result Verdict Refusal
+verdict_of r (Err e) = Err e
+verdict_of r (Ok m) = classed r m (class_of r.number)
 
 -- by the parts of a session that judging looks at: the dossier that is named, the clipboard, the signatures and the log
-abbrev pub weighed_of : Dossier → Clipboard → List Agreements → Log → Request → Verdict
+abbrev pub weighed_of : Dossier → Clipboard → List Agreements → Log → Request → Result Verdict Refusal
 weighed_of d c rows log r =
     let q = view_request r in
     let f = run.found q (view_dossier d) in
     verdict_of r (judged_of (refusals.refusal q f (run.cached (view_clipboard c)) (standing_of q (view_signatures rows) log.count)) (refusals.granted q f))
 
--- ---- request 17's image: a branch, or the answer to a bad one
-abbrev pub laden_of : Request → Loaded → Laden
-laden_of r l = record { good = l.good; request = r; answer = plain_of (BadRecord l.«record»); clipboard = record { kind = 1; held = l.dossier } }
+-- ---- request 17's image: a branch to paste, or the refusal of a bad one
+abbrev pub laden_of : Loaded → Result Clipboard Refusal
+laden_of l = pick l.good (Ok (record { kind = 1; held = l.dossier })) (Err (BadRecord l.«record»))

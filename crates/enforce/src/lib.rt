@@ -2,33 +2,24 @@
 // becomes what there is to paste. What is done about it is deeds'.
 #![tactic(auto)]
 
-ghost use Rattle.std.specs.Prelude.{◌≡◌, not, ◌≤◌, T, eqb};
+ghost use Rattle.std.specs.Prelude.{◌≡◌, not, ◌≤◌, T, eqb, Ok};
 ghost use Rattle.model.specs.Image.{load_added};
 ghost use Rattle.model.specs.Run as run;
 ghost use Rattle.tables.specs.View.{ClipboardSound, DossierFits, view_clipboard};
 ghost use Rattle.refusals.specs.View.{CacheSound, view_cache};
 ghost use Rattle.image.specs.View.{loaded_of};
-ghost use Rattle.state.specs.declared.Outcome.TheVariants.{Done, Refused};
-ghost use Rattle.state.specs.View.{plain_of, view_request};
+ghost use Rattle.state.specs.declared.Reply.TheVariants.{Done};
+ghost use Rattle.state.specs.View.{view_request};
 ghost use Rattle.enforce.specs.Requests.{laden_of, pasting, weighed_of};
 
 use branch::load_branch;
 use deeds::classes::{Verdict, class_of};
-use judge::Judged;
 use judge::table::judged;
 use operands::bad_operand;
 use refusals::{Cache, cached};
-use state::{Agreements, Answer, Log, Outcome, Request, plain};
+use state::refusal::Refusal;
+use state::{Agreements, Answer, Log, Reply, Request};
 use tables::{Clipboard, Dossier};
-
-// Request 17's image as a branch; or a bad one, and the answer to it.
-#[derive(Clone, Copy)]
-pub struct Laden {
-    pub good: bool,
-    pub request: Request,
-    pub answer: Answer,
-    pub clipboard: Clipboard,
-}
 
 // ---- a request, weighed
 
@@ -57,28 +48,28 @@ fn cache_for(c: Clipboard, number: u8) -> Cache
     }
 }
 
-// Refused, with its number; or what is to be done about it, and the messages to log.
-pub fn weighed(d: Dossier, c: Clipboard, rows: [Agreements; 64], log: Log, r: Request) -> Verdict
+// Refused; or what is to be done about it, and the messages to log.
+pub fn weighed(
+    d: Dossier,
+    c: Clipboard,
+    rows: [Agreements; 64],
+    log: Log,
+    r: Request,
+) -> Result<Verdict, Refusal>
     requires { DossierFits d × ClipboardSound c × (log.count ≤ 256) }
     ensures { result ≡ weighed_of d c rows log r }
 {
     let k = cache_for(c, r.number);
-    match judged(d, k, rows, log.count, r) {
-        Judged::Refused(n) => Verdict {
-            class: 0,
-            dossier: r.dossier,
-            refusal: n,
-            messages: 0,
-            request: r,
-        },
-        Judged::Allowed(messages) => Verdict {
-            class: class_of(r.number),
-            dossier: r.dossier,
-            refusal: 0,
-            messages: messages,
-            request: r,
-        },
-    }
+    let told = judged(d, k, rows, log.count, r);
+    let messages = told?;
+    // a number that no request has was refused above
+    let class = class_of(r.number).ok_or(Refusal::BadOperand)?;
+    Ok(Verdict {
+        class,
+        dossier: r.dossier,
+        messages,
+        request: r,
+    })
 }
 
 // No message is to be logged.
@@ -90,16 +81,10 @@ pub fn quiet(v: Verdict) -> bool
 
 // ---- answers
 
-pub fn refused(v: Verdict) -> Answer
-    ensures { result ≡ plain_of (Refused v.refusal) }
-{
-    plain(Outcome::Refused(v.refusal))
-}
-
 pub fn done() -> Answer
-    ensures { result ≡ plain_of Done }
+    ensures { result ≡ Ok Done }
 {
-    plain(Outcome::Done)
+    Ok(Reply::Done)
 }
 
 // ---- request 17
@@ -112,19 +97,13 @@ pub fn stays(r: Request) -> bool
 }
 
 // Its image placed as a branch of its user's, or the first record that is bad or a permission.
-pub fn as_branch(r: Request, image: &[u8]) -> Laden
-    ensures { result ≡ laden_of r (loaded_of (load_added r.user image.now)) }
+pub fn as_branch(r: Request, image: &[u8]) -> Result<Clipboard, Refusal>
+    ensures { result ≡ laden_of (loaded_of (load_added r.user image.now)) }
 {
     let l = load_branch(image, r.user);
-    let held = l.dossier;
-    let c = Clipboard {
-        kind: 1,
-        held: held,
-    };
-    Laden {
-        good: l.good,
-        request: r,
-        answer: plain(Outcome::BadRecord(l.record)),
-        clipboard: c,
+    if !l.good {
+        return Err(Refusal::BadRecord(l.record));
     }
+    let held = l.dossier;
+    Ok(Clipboard { kind: 1, held })
 }

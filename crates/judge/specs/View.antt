@@ -1,28 +1,31 @@
 -- What a request is judged against, and the judgement.
-use Rattle.std.specs.Prelude.{◌≡◌, false, List, ◌∷◌, ◌++◌, ℕ}
+use Rattle.std.specs.Prelude.{◌≡◌, false, List, ◌∷◌, ◌++◌, ℕ, Result, Ok, Err}
 use Rattle.std.proofs.Math.Option.{Option, none, some}
 use Rattle.model.specs.Decide.{Provisions}
 use Rattle.model.specs.Refusals.{Request, Standing, at_root, wrong_clipboard, missing, provisions, granted, shelves, provided, first_that, refusal}
 use Rattle.model.specs.Run.{signed_by}
 use Rattle.tables.specs.declared.Dossier.{Dossier}
 use Rattle.grants.specs.View.{view_decision}
+use Rattle.state.specs.declared.refusal.Refusal.{Refusal}
+use Rattle.state.specs.Refusals.{refusal_of}
 use Rattle.refusals.specs.declared.Placed.{Placed}
 use Rattle.refusals.specs.declared.Cache.{Cache}
 use Rattle.refusals.specs.declared.Seen.{Seen}
 use Rattle.refusals.specs.View.{view_placed, view_cache}
 use Rattle.refusals.specs.Parts.{found_for}
 use Rattle.refusals.specs.Look.{absent_in, taken_in, uncovered_in, clashing_in, totals_in}
-use Rattle.judge.specs.declared.Judged.{Judged}
-use Rattle.judge.specs.declared.Judged.TheVariants.{Refused, Allowed}
 
 -- the agreements in the user's row, and how many entries the log has
 abbrev pub standing_of : Request → List ℕ → ℕ → Standing
 standing_of r rows entries = record { signed = signed_by r.user rows; entries = entries }
 
 -- a refusal, or the messages of what is granted
+abbrev pub Judged : Type 0
+Judged = Result ℕ Refusal
+
 abbrev pub judged_of : Option ℕ → Option Provisions → Judged
-judged_of (some n) may = Refused n
-judged_of none may = Allowed (provisions may).messages
+judged_of (some n) may = Err (refusal_of n)
+judged_of none may = Ok (provisions may).messages
 
 -- the whole table, of a user who has signed so much and a log of so many entries
 abbrev pub judgement : Dossier → Cache → ℕ → ℕ → Placed → Judged

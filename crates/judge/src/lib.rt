@@ -3,10 +3,3 @@
 #![tactic(auto)]
 
 pub mod table;
-
-// Refused, with the number; or allowed, with the messages to log.
-#[derive(Clone, Copy)]
-pub enum Judged {
-    Refused(u8),
-    Allowed(u32),
-}

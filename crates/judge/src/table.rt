@@ -10,13 +10,13 @@ ghost use Rattle.refusals.specs.View.{view_cache, CacheSound};
 ghost use Rattle.refusals.specs.Look.{SeenSound};
 ghost use Rattle.judge.specs.View.{standing_of, judged_of, judged_in, Passed};
 
-use crate::Judged;
 use grants::Provisions;
 use operands::bad_operand;
 use refusals::look::looked;
 use refusals::place::{absent, at_root, placed, taken, wrong_clipboard};
 use refusals::room::{clashing, log_full, shelf_for, uncovered, unsigned};
-use refusals::{Cache, Placed, Seen, Shelf};
+use refusals::{Cache, Placed, Seen};
+use state::refusal::Refusal;
 use state::signatures::signed_by;
 use state::{Agreements, Request};
 use tables::Dossier;
@@ -31,10 +31,10 @@ fn provisions_of(may: Option<Provisions>) -> Provisions
     may.unwrap_or_default()
 }
 
-// ---- the tests in their order; each answer is asked before, so that the order stands by itself
+// ---- the tests in their order, each a refusal, or the messages to log; what each asks is asked before, so that the order stands by itself
 
 // 7, 8, the shelves, 10 and 11, of a request that is granted.
-fn judged_granted(s: Seen, c: Cache, signed: u32, entries: usize, q: Placed) -> Judged
+fn judged_granted(s: Seen, c: Cache, signed: u32, entries: usize, q: Placed) -> Result<u32, Refusal>
     requires { SeenSound s × CacheSound c × (entries ≤ 256) × PathSound q.path × Passed s c q }
     ensures { result ≡ judged_in s c signed entries q }
 {
@@ -45,27 +45,25 @@ fn judged_granted(s: Seen, c: Cache, signed: u32, entries: usize, q: Placed) -> 
     let unread = unsigned(asked.agreements, signed);
     let late = log_full(asked.messages, entries);
     if bare {
-        return Judged::Refused(7);
+        return Err(Refusal::NotCovered);
     }
     if clash {
-        return Judged::Refused(8);
+        return Err(Refusal::Clashes);
     }
-    match shelf {
-        Shelf::Full(number) => Judged::Refused(number),
-        Shelf::Room => {
-            if unread {
-                return Judged::Refused(10);
-            }
-            if late {
-                return Judged::Refused(11);
-            }
-            Judged::Allowed(asked.messages)
-        }
+    if let Some(full) = shelf {
+        return Err(full);
     }
+    if unread {
+        return Err(Refusal::Unsigned);
+    }
+    if late {
+        return Err(Refusal::LogFull);
+    }
+    Ok(messages)
 }
 
 // 2 to 6, of a request whose operands are good.
-fn judged_placed(s: Seen, c: Cache, signed: u32, entries: usize, q: Placed) -> Judged
+fn judged_placed(s: Seen, c: Cache, signed: u32, entries: usize, q: Placed) -> Result<u32, Refusal>
     requires { SeenSound s × CacheSound c × (entries ≤ 256) × PathSound q.path }
     ensures { result ≡ judged_in s c signed entries q }
 {
@@ -75,32 +73,38 @@ fn judged_placed(s: Seen, c: Cache, signed: u32, entries: usize, q: Placed) -> J
     let other = wrong_clipboard(c, q);
     let denied = s.may.is_none();
     if root {
-        return Judged::Refused(2);
+        return Err(Refusal::AtRoot);
     }
     if gone {
-        return Judged::Refused(3);
+        return Err(Refusal::Absent);
     }
     if there {
-        return Judged::Refused(4);
+        return Err(Refusal::NameTaken);
     }
     if other {
-        return Judged::Refused(5);
+        return Err(Refusal::WrongClipboard);
     }
     if denied {
-        return Judged::Refused(6);
+        return Err(Refusal::NotGranted);
     }
     judged_granted(s, c, signed, entries, q)
 }
 
 // The dossier is looked at once; what is seen of it is all that the tests are handed.
-pub fn judged(d: Dossier, c: Cache, rows: [Agreements; 64], entries: usize, r: Request) -> Judged
+pub fn judged(
+    d: Dossier,
+    c: Cache,
+    rows: [Agreements; 64],
+    entries: usize,
+    r: Request,
+) -> Result<u32, Refusal>
     requires { DossierFits d × CacheSound c × (entries ≤ 256) }
     ensures { result ≡ judged_of
         (refusals.refusal (view_request r) (run.found (view_request r) (view_dossier d)) (view_cache c) (standing_of (view_request r) (view_signatures rows) entries))
         (refusals.granted (view_request r) (run.found (view_request r) (view_dossier d))) }
 {
     if bad_operand(r) {
-        return Judged::Refused(1);
+        return Err(Refusal::BadOperand);
     }
     let signed = signed_by(rows, r.user);
     let q = placed(r);

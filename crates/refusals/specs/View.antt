@@ -1,13 +1,14 @@
 -- The structs of this crate and the model.
 use Rattle.std.proofs.Math.Option.{Option, none, some}
-use Rattle.std.specs.Prelude.{ℕ, ◌≤◌}
+use Rattle.std.specs.Prelude.{ℕ, ◌≤◌, Some, None}
+use Rattle.std.specs.Prelude as structs
 use Rattle.path.specs.View.{steps}
 use Rattle.model.specs.Refusals.{Request, Cached}
 use Rattle.tables.specs.View.{view_value, view_grant}
+use Rattle.state.specs.declared.refusal.Refusal.{Refusal}
+use Rattle.state.specs.Refusals.{number_of}
 use Rattle.refusals.specs.declared.Placed.{Placed}
 use Rattle.refusals.specs.declared.Cache.{Cache}
-use Rattle.refusals.specs.declared.Shelf.{Shelf}
-use Rattle.refusals.specs.declared.Shelf.TheVariants.{Room, Full}
 
 abbrev pub view_placed : Placed → Request
 view_placed q =
@@ -39,7 +40,7 @@ pub record CacheSound (c : Cache) : Type 0 where
   pub permissions : c.permissions ≤ 128
   pub height : c.height ≤ 6
 
--- the first of the shelves' refusals that applies
-abbrev pub view_shelf : Shelf → Option ℕ
-view_shelf Room = none
-view_shelf (Full n) = some n
+-- the first of the shelves' refusals that applies, by its number
+abbrev pub view_shelf : structs.Option Refusal → Option ℕ
+view_shelf None = none
+view_shelf (Some e) = some (number_of e)

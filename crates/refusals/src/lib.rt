@@ -59,13 +59,6 @@ pub struct Cache {
     pub height: usize,
 }
 
-// Whether there is room on every shelf; or the first that would be full, by its refusal.
-#[derive(Clone, Copy)]
-pub enum Shelf {
-    Room,
-    Full(u8),
-}
-
 // What there is to paste.
 pub fn cached(c: Clipboard) -> Cache
     requires { ClipboardSound c }

@@ -6,13 +6,14 @@ ghost use Rattle.model.specs.Refusals as refusals;
 ghost use Rattle.refusals.specs.View.{view_placed, view_shelf, CacheSound};
 ghost use Rattle.refusals.specs.Look.{SeenSound, uncovered_in, clashing_in, totals_in};
 
-use crate::{Cache, Placed, Seen, Shelf};
+use crate::{Cache, Placed, Seen};
 use counts::{
     attributes_over, children_over, depth_over, nodes_over, on_node_over, permissions_over,
 };
 use grants::subset;
 use path::size;
 use state::entries::message_count;
+use state::refusal::Refusal;
 
 // ---- the permissions of the object
 
@@ -104,8 +105,8 @@ fn permissions_full(s: Seen, c: Cache, q: Placed) -> bool
     }
 }
 
-// The first that would be passed, in the table's order.
-pub fn shelf_for(s: Seen, c: Cache, q: Placed) -> Shelf
+// The refusal of the first that would be passed, in the table's order.
+pub fn shelf_for(s: Seen, c: Cache, q: Placed) -> Option<Refusal>
     requires { SeenSound s × CacheSound c × PathSound q.path }
     ensures { view_shelf result ≡ refusals.first_that (refusals.shelves (totals_in s c q)) }
 {
@@ -116,21 +117,21 @@ pub fn shelf_for(s: Seen, c: Cache, q: Placed) -> Shelf
     let on_node = on_node_full(s, c, q);
     let permissions = permissions_full(s, c, q);
     if nodes {
-        return Shelf::Full(13);
+        return Some(Refusal::NodesFull);
     }
     if depth {
-        return Shelf::Full(14);
+        return Some(Refusal::TooDeep);
     }
     if children {
-        return Shelf::Full(15);
+        return Some(Refusal::ChildrenFull);
     }
     if attributes | on_node {
-        return Shelf::Full(16);
+        return Some(Refusal::AttributesFull);
     }
     if permissions {
-        return Shelf::Full(17);
+        return Some(Refusal::PermissionsFull);
     }
-    Shelf::Room
+    None
 }
 
 // ---- signatures and the log

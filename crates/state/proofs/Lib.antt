@@ -4,3 +4,4 @@ pub mod Logs
 pub mod Signing
 pub mod Taking
 pub mod Sessions
+pub mod Numbers

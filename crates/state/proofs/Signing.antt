@@ -10,9 +10,12 @@ use Rattle.model.specs.Refusals.{user_good, first_that}
 use Rattle.model.specs.Run as run
 use Rattle.model.specs.Run.{step, or_refused, reply, with_signatures}
 use Rattle.state.specs.declared.Agreements.{Agreements}
-use Rattle.state.specs.declared.Outcome.TheVariants.{Done, Refused}
+use Rattle.std.specs.Prelude.{Ok, Err}
+use Rattle.state.specs.declared.Reply.TheVariants.{Done}
+use Rattle.state.specs.declared.refusal.Refusal.TheVariants.{BadOperand}
+use Rattle.state.specs.Refusals.{refusal_of}
 use Rattle.state.specs.declared.signatures.SignaturesOut.{SignaturesOut}
-use Rattle.state.specs.View.{view_signatures, signatures_of, plain_of, answer_of}
+use Rattle.state.specs.View.{view_signatures, signatures_of, answer_of}
 use Rattle.state.specs.Calls.{signed_of, having_signatures}
 
 pub rows_back : (l : List Agreements) → signatures_of (view_signatures l) ≡ l
@@ -32,16 +35,16 @@ by rows user agreement good =
     record { signatures = signatures_of out.0.signatures; answer = answer_of out.1.answer }
 
 pub sign_refused : (rows : List Agreements) (user agreement : ℕ) → (user_good user && leb agreement 31) ≡ false
-    → record { signatures = rows; answer = plain_of (Refused 1) } ≡ signed_of rows user agreement
-unfolding step by
-sign_refused rows user agreement e = ap (λ z. record { signatures = z; answer = plain_of (Refused 1) }) (sym (rows_back rows)) ∙ ap (by rows user agreement) (sym e)
+    → record { signatures = rows; answer = Err BadOperand } ≡ signed_of rows user agreement
+unfolding step by refusal_of
+sign_refused rows user agreement e = ap (λ z. record { signatures = z; answer = Err BadOperand }) (sym (rows_back rows)) ∙ ap (by rows user agreement) (sym e)
 
 pub sign_done : (rows : List Agreements) (user agreement : ℕ) → (user_good user && leb agreement 31) ≡ true
-    → record { signatures = set rows (user - 1) (record { signed = bit_or (get_or rows (user - 1) (record { signed = 0 })).signed (2 ^ agreement) }); answer = plain_of Done }
+    → record { signatures = set rows (user - 1) (record { signed = bit_or (get_or rows (user - 1) (record { signed = 0 })).signed (2 ^ agreement) }); answer = Ok Done }
     ≡ signed_of rows user agreement
-unfolding step by
+unfolding step by refusal_of
 sign_done rows user agreement e =
-    ap (λ n. record { signatures = set rows (user - 1) (record { signed = bit_or n (2 ^ agreement) }); answer = plain_of Done })
+    ap (λ n. record { signatures = set rows (user - 1) (record { signed = bit_or n (2 ^ agreement) }); answer = Ok Done })
     (sym (get_or-map (λ (r : Agreements). r.signed) rows (user - 1) (record { signed = 0 })))
-    ∙ ap (λ z. record { signatures = z; answer = plain_of Done }) (sym (set_back rows (user - 1) (bit_or (run.signed_by user (view_signatures rows)) (2 ^ agreement))))
+    ∙ ap (λ z. record { signatures = z; answer = Ok Done }) (sym (set_back rows (user - 1) (bit_or (run.signed_by user (view_signatures rows)) (2 ^ agreement))))
     ∙ ap (by rows user agreement) (sym e)

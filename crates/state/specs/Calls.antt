@@ -9,12 +9,11 @@ use Rattle.tables.specs.View.{view_dossier, dossier_of, view_clipboard}
 use Rattle.state.specs.declared.Agreements.{Agreements}
 use Rattle.state.specs.declared.Log.{Log}
 use Rattle.state.specs.declared.Session.{Session}
-use Rattle.state.specs.declared.Answer.{Answer}
 use Rattle.state.specs.declared.Stepped.{Stepped}
 use Rattle.state.specs.declared.DossiersOut.{DossiersOut}
 use Rattle.state.specs.declared.signatures.SignaturesOut.{SignaturesOut}
 use Rattle.state.specs.declared.entries.LogOut.{LogOut}
-use Rattle.state.specs.View.{view_signatures, signatures_of, view_log, log_of, view_session, session_of, answer_of}
+use Rattle.state.specs.View.{view_signatures, signatures_of, view_log, log_of, view_session, session_of, Answer, answer_of}
 
 -- what a call on a state answers, and the one buffer that is lent to it as it is left
 abbrev pub answer_in : State → Call → Answer

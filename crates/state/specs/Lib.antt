@@ -1,3 +1,4 @@
+pub mod Refusals
 pub mod View
 pub mod Calls
 pub mod Parts

@@ -1,5 +1,5 @@
 -- The structs of this crate and the model: view (struct to model), ..Of (model to the one struct that stands for it), ..Sound.
-use Rattle.std.specs.Prelude.{List, [], map, ℕ, take, length}
+use Rattle.std.specs.Prelude.{List, map, ℕ, take, length, Result, Ok, Err}
 use Rattle.laws.specs.Slots.{slots, Is}
 use Rattle.path.specs.View.{asked}
 use Rattle.model.specs.Things.{State}
@@ -7,15 +7,16 @@ use Rattle.model.specs.Refusals as refusals
 use Rattle.model.specs.Run as run
 use Rattle.model.specs.Sound.{SoundState}
 use Rattle.tables.specs.View.{view_value, value_of, view_grant, view_dossier, dossier_of, view_clipboard, clipboard_of, names_of}
-use Rattle.tables.specs.declared.Names.{Names}
 use Rattle.state.specs.declared.Agreements.{Agreements}
 use Rattle.state.specs.declared.Entry.{Entry}
 use Rattle.state.specs.declared.Log.{Log}
 use Rattle.state.specs.declared.Session.{Session}
 use Rattle.state.specs.declared.Request.{Request}
-use Rattle.state.specs.declared.Outcome.{Outcome}
-use Rattle.state.specs.declared.Outcome.TheVariants.{Done, Contents, ValueRead, Wrote, Refused, BadRecord}
-use Rattle.state.specs.declared.Answer.{Answer}
+use Rattle.state.specs.declared.Reply.{Reply}
+use Rattle.state.specs.declared.Reply.TheVariants.{Done, Contents, ValueRead, Wrote}
+use Rattle.state.specs.declared.refusal.Refusal.{Refusal}
+use Rattle.state.specs.declared.refusal.Refusal.TheVariants.{BadRecord}
+use Rattle.state.specs.Refusals.{number_of, refusal_of}
 
 -- ---- a request: whatever its bytes are, it asks for something
 abbrev pub view_request : Request → refusals.Request
@@ -82,17 +83,19 @@ session_of s =
 abbrev pub SessionSound : Session → Type 0
 SessionSound s = Is session_of SoundState s
 
--- ---- answers: this paper's number and values for each case; a place that a case does not use is 0
-abbrev pub no_names : Names
-no_names = names_of []
-
-abbrev pub plain_of : Outcome → Answer
-plain_of o = record { outcome = o; names = no_names }
+-- ---- answers: what is answered, or the refusal of the paper's number; 12 with its record is refused with that record
+abbrev pub Answer : Type 0
+Answer = Result Reply Refusal
 
 abbrev pub answer_of : run.Answer → Answer
-answer_of run.done = plain_of Done
-answer_of (run.contents names children) = record { outcome = Contents children; names = names_of names }
-answer_of (run.value_read v) = plain_of (ValueRead (value_of v))
-answer_of (run.wrote n) = plain_of (Wrote n)
-answer_of (run.refused n) = plain_of (Refused n)
-answer_of (run.bad_record n) = plain_of (BadRecord n)
+answer_of run.done = Ok Done
+answer_of (run.contents names children) = Ok (Contents (names_of names) children)
+answer_of (run.value_read v) = Ok (ValueRead (value_of v))
+answer_of (run.wrote n) = Ok (Wrote n)
+answer_of (run.refused n) = Err (refusal_of n)
+answer_of (run.bad_record n) = Err (BadRecord n)
+
+-- the paper's number of an answer: 0, or the refusal's
+abbrev pub number_in : Answer → ℕ
+number_in (Ok r) = 0
+number_in (Err e) = number_of e

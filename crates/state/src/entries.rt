@@ -5,7 +5,8 @@ ghost use Rattle.model.specs.Run as run;
 ghost use Rattle.state.specs.View.{view_log, log_of};
 ghost use Rattle.state.specs.Calls.{LogSound, having_log, taken_of, buffer_in};
 
-use crate::{Answer, Entry, Log, Outcome, plain};
+use crate::refusal::Refusal;
+use crate::{Answer, Entry, Log, Reply};
 
 #[derive(Clone, Copy)]
 pub struct LogOut {
@@ -60,14 +61,14 @@ pub fn taken(log: Log, out: &mut [u8]) -> LogOut
     let n = log.count;
     if out.len() < 2 * n {
         return LogOut {
-            log: log,
-            answer: plain(Outcome::Refused(9)),
+            log,
+            answer: Err(Refusal::ShortBuffer),
         };
     }
     put_entries(log, out);
     LogOut {
         log: no_entries(),
-        answer: plain(Outcome::Wrote(2 * n)),
+        answer: Ok(Reply::Wrote(2 * n)),
     }
 }
 

@@ -1,13 +1,12 @@
 // What a session holds, what a request carries, and what a call answers.
 #![tactic(auto)]
 
-ghost use Rattle.std.specs.Prelude.{◌≡◌};
-ghost use Rattle.state.specs.View.{plain_of};
-
+use crate::refusal::Refusal;
 use path::RawPath;
 use tables::{Clipboard, Dossier, Grant, Names, Value};
 
 pub mod entries;
+pub mod refusal;
 pub mod signatures;
 
 // The agreements that one user has signed, bit n for number n.
@@ -53,23 +52,16 @@ pub struct Request {
     pub permission: Grant,
 }
 
-// Done; a node's child count (its names stand beside it); a value; how many bytes were written; a refusal; refusal 12 with its record.
+// What a call that is not refused answers: done; the names on a node and its child count; a value; how many bytes were written.
 #[derive(Clone, Copy)]
-pub enum Outcome {
+pub enum Reply {
     Done,
-    Contents(usize),
+    Contents(Names, usize),
     ValueRead(Value),
     Wrote(usize),
-    Refused(u8),
-    BadRecord(usize),
 }
 
-// The names are those of a node that was read; else there are none.
-#[derive(Clone, Copy)]
-pub struct Answer {
-    pub outcome: Outcome,
-    pub names: Names,
-}
+pub type Answer = Result<Reply, Refusal>;
 
 #[derive(Clone, Copy)]
 pub struct Stepped {
@@ -83,18 +75,4 @@ pub struct DossiersOut {
     pub one: Dossier,
     pub two: Dossier,
     pub answer: Answer,
-}
-
-// An answer without names.
-pub fn plain(outcome: Outcome) -> Answer
-    ensures { result ≡ plain_of outcome }
-{
-    let none = Names {
-        names: [0; 16],
-        count: 0,
-    };
-    Answer {
-        outcome: outcome,
-        names: none,
-    }
 }

@@ -4,7 +4,8 @@ ghost use Rattle.model.specs.Run.{signed_by};
 ghost use Rattle.state.specs.View.{view_signatures};
 ghost use Rattle.state.specs.Calls.{signed_of};
 
-use crate::{Agreements, Answer, Outcome, plain};
+use crate::refusal::Refusal;
+use crate::{Agreements, Answer, Reply};
 
 #[derive(Clone, Copy)]
 pub struct SignaturesOut {
@@ -29,19 +30,19 @@ pub fn signed(rows: [Agreements; 64], user: u8, agreement: u8) -> SignaturesOut
     if user < 1 {
         return SignaturesOut {
             signatures: rows,
-            answer: plain(Outcome::Refused(1)),
+            answer: Err(Refusal::BadOperand),
         };
     }
     if 64 < user {
         return SignaturesOut {
             signatures: rows,
-            answer: plain(Outcome::Refused(1)),
+            answer: Err(Refusal::BadOperand),
         };
     }
     if 31 < agreement {
         return SignaturesOut {
             signatures: rows,
-            answer: plain(Outcome::Refused(1)),
+            answer: Err(Refusal::BadOperand),
         };
     }
     let i = (user - 1) as usize;
@@ -53,6 +54,6 @@ pub fn signed(rows: [Agreements; 64], user: u8, agreement: u8) -> SignaturesOut
     };
     SignaturesOut {
         signatures: out,
-        answer: plain(Outcome::Done),
+        answer: Ok(Reply::Done),
     }
 }

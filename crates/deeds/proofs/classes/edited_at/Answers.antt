@@ -7,6 +7,8 @@ use Rattle.model.specs.Run as run
 use Rattle.tables.specs.declared.Dossier.{Dossier}
 use Rattle.tables.specs.View.{view_dossier, dossier_of}
 use Rattle.tables.proofs.Parts.{dossier_fits}
+use Rattle.std.specs.Prelude.{Some}
+use Rattle.deeds.specs.declared.classes.Class.TheVariants.{Edit, Cut}
 use Rattle.deeds.specs.Classes.{Open, class_of}
 use Rattle.deeds.proofs.Allowed.{add_room}
 use Rattle.deeds.proofs.Numbers.{no_branch, told}
@@ -33,7 +35,7 @@ pub returns-in_default : goal.returns-in_default
 returns-in_default c =
     let e = c.placed-q.ensures.0 in
     let r = c.in_default.in_default-own.rest in
-    let class = subst (λ (x : Request). (class_of x.number ≡ 4) ⊎ (class_of x.number ≡ 7)) (sym e) c.requires.3 in
+    let class = subst (λ (x : Request). (class_of x.number ≡ Some Edit) ⊎ (class_of x.number ≡ Some Cut)) (sym e) c.requires.3 in
     let h = c.delete_attribute.ensures in
     let a = ⊎_elim (λ n. told (leaves (goal.at.returns-in_default c).Start) e n h) (λ n. told (leaves (goal.at.returns-in_default c).Start) e n h) (no_branch class r.0.1 r.1) in
     λ i. record { dossier = c.args.v.dossier; whole = a i }

@@ -9,6 +9,8 @@ use Rattle.model.specs.Run as run
 use Rattle.tables.specs.declared.Dossier.{Dossier}
 use Rattle.tables.specs.View.{view_dossier, dossier_of, view_clipboard}
 use Rattle.state.specs.View.{view_request}
+use Rattle.std.specs.Prelude.{Some}
+use Rattle.deeds.specs.declared.classes.Class.TheVariants.{Paste}
 use Rattle.deeds.specs.Classes.{Allowed, class_of}
 use Rattle.deeds.proofs.Pasting.{pasted_branch_lem, branch_room, attribute_room}
 use Rattle.deeds.proofs.Numbers.{not_thirteen, told}
@@ -22,7 +24,7 @@ leaves s r = dossier_of (run.edited r (view_dossier s.args.d) (view_clipboard s.
 -- what is asked of a request, of the request with its path taken
 record Pastes (s : Start) (r : Request) : Type 0 where
   pub allowed : Allowed r (view_dossier s.args.d) (view_clipboard s.args.c)
-  pub class : class_of r.number ≡ 5
+  pub class : class_of r.number ≡ Some Paste
   pub branch : r.number ≡ 17 → T (run.cached (view_clipboard s.args.c)).branch
 
 pastes : (s : Start) {q : Request} → q ≡ view_request s.args.v.request → Pastes s q

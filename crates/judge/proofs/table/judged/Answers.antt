@@ -11,12 +11,18 @@ use Rattle.refusals.specs.declared.Seen.{Seen}
 use Rattle.refusals.specs.Look.{SeenSound}
 use Rattle.refusals.proofs.Looked.{seen_sound}
 use Rattle.judge.specs.View.{standing_of, judged_of, judgement, judged_in}
-use Rattle.judge.proofs.Order.{on_seen}
+use Rattle.judge.proofs.Order.{refused_1, on_seen}
 use Rattle.judge.proofs.table.judged.Goals as goal
 use Rattle.judge.proofs.table.judged.Goals.{Else-bad_operand}
 
 operands : (c : Else-bad_operand) → refusals.bad_operand (view_request c.args.r) ≡ false
 operands c = sym c.bad_operand.ensures ∙ c.if-bad_operand.false
+
+pub returns-then-bad_operand : goal.returns-then-bad_operand
+returns-then-bad_operand c =
+    let r = view_request c.args.r in
+    let f = found r (view_dossier c.args.d) in
+    refused_1 r f (view_cache c.args.c) (standing_of r (view_signatures c.args.rows) c.args.entries) (sym c.bad_operand.ensures ∙ c.if-bad_operand.true)
 
 pub judged_placed-requires : goal.judged_placed-requires
 judged_placed-requires c =

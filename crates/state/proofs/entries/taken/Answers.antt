@@ -1,14 +1,14 @@
 -- `state::entries::taken` meets its contract: all entries are written and the log is empty, or nothing changes. Assumes nothing.
 use mathlib.Core.Path.{◌≡◌, sym, ap, ◌∙◌}
-use mathlib.Core.List.{[]}
 use Prim.Native.Nat.{◌*◌}
 use native.Mathlib.Omega.{arith}
 use borrow.Author.Tests.{lt-ltb, le-ltb}
 use lib.ListN.{length}
 use Rattle.model.specs.Run.{log_bytes}
 use Rattle.state.specs.declared.Log.{Log}
-use Rattle.state.specs.declared.Outcome.TheVariants.{Wrote}
-use Rattle.state.specs.View.{view_log, log_of, plain_of}
+use Rattle.std.specs.Prelude.{Ok}
+use Rattle.state.specs.declared.Reply.TheVariants.{Wrote}
+use Rattle.state.specs.View.{view_log}
 use Rattle.state.specs.Calls.{LogSound}
 use Rattle.state.proofs.Logs.{log_count, log_room}
 use Rattle.state.proofs.Taking.{log_bytes_lem, take_refused, take_done}
@@ -26,13 +26,13 @@ returns-then-out-n c =
     let n = need c.args.log c.requires in
     let b = c.args.out.now in
     let w = take_refused c.args.log c.requires b (lt-ltb (length b) (length (log_bytes (view_log c.args.log))) (omega (arith, n, c.if-out-n.true))) in
-    (ap (λ a. record { log = c.args.log; answer = a }) c.plain.ensures ∙ w.0, w.1)
+    w
 
 pub returns : goal.returns
 returns c =
     let n = need c.args.log c.requires in
     let b = c.args.out.now in
     let w = take_done c.args.log b (le-ltb (length b) (length (log_bytes (view_log c.args.log))) (omega (arith, n, c.if-out-n.false))) in (
-      (λ i. record { log = c.no_entries.ensures i; answer = c.plain-2.ensures i }) ∙ ap (λ k. record { log = log_of []; answer = plain_of (Wrote k) }) (sym n) ∙ w.0,
+      (λ i. record { log = c.no_entries.ensures i; answer = Ok (Wrote (sym n i)) }) ∙ w.0,
       c.put_entries.ensures ∙ w.1,
     )
