@@ -59,7 +59,7 @@ fn judged_granted(s: Seen, c: Cache, signed: u32, entries: usize, q: Placed) -> 
     if late {
         return Err(Refusal::LogFull);
     }
-    Ok(messages)
+    Ok(asked.messages)
 }
 
 // 2 to 6, of a request whose operands are good.

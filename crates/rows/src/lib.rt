@@ -14,7 +14,7 @@ ghost use Rattle.model.specs.Things as things;
 ghost use Rattle.rows.specs.Tables.{given, row_lt, RowSound, seen, table_of, TableSound, Step, Gives, Merging};
 
 use kinds::Row;
-use path::{Moved, Path, key, path_down, path_off, path_on, path_up};
+use path::{Path, key, path_down, path_off, path_on, path_up};
 use tables::Table;
 
 pub mod kinds;
@@ -65,15 +65,11 @@ pub fn merged<R: Row, const N: usize, F: Fn(R, R) -> bool>(
 // ---- tables whose rows go where their paths go
 
 // The row at its new path, if it has one.
-fn carried<R: Row>(row: R, to: Moved) -> Option<R>
+fn carried<R: Row>(row: R, to: Option<Path>) -> Option<R>
     requires { RowSound R.of row }
     ensures { (o : math.Option Address) → to ≡ moved_of o → result ≡ given R.of (carry (λ p. o) (R.view row)) }
 {
-    if to.there {
-        Some(row.placed(to.path))
-    } else {
-        None
-    }
+    Some(row.placed(to?))
 }
 
 // After an add or a paste at q: at or below q, or a later sibling of it, that step is one higher; the others stay.
