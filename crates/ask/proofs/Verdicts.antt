@@ -10,6 +10,8 @@ use lib.Dec.{T, leb}
 use lib.IntN.{ℤ, pos, negsuc}
 use mir.Syntax.{w64}
 use mir.Val.{SFits}
+use Rattle.std.specs.Prelude as std
+use Rattle.std.specs.Prelude.{Some, None}
 use Rattle.path.specs.Address.{Address, valid}
 use Rattle.path.proofs.Structs.{no}
 use Rattle.model.specs.Things as things
@@ -26,8 +28,7 @@ use Rattle.tables.proofs.Rows.{view_dossier_lem}
 use Rattle.tables.proofs.Parts.{dossier_fits}
 use Rattle.grants.specs.View.{decision_of}
 use Rattle.decide.specs.View.{object_owner}
-use Rattle.grants.specs.declared.Decision.{Decision}
-use Rattle.grants.specs.declared.Decision.TheVariants.{Denied, Granted}
+use Rattle.grants.specs.declared.Provisions as grants
 use Rattle.image.specs.declared.Loaded.{Loaded}
 use Rattle.image.specs.View.{loaded_of}
 use Rattle.ask.specs.declared.Verdict.{Verdict}
@@ -69,9 +70,9 @@ pub not_there : (o : Option Object) (m : Option Provisions) → true ≡ missing
 not_there none m e = refl
 not_there (some o) m e = no e
 
-abbrev pub of_decision : Decision → Verdict
-of_decision Denied = verdicts.Refused 6
-of_decision (Granted m a) = verdicts.Granted m a
+abbrev pub of_decision : std.Option grants.Provisions → Verdict
+of_decision None = verdicts.Refused 6
+of_decision (Some p) = verdicts.Granted p.messages p.agreements
 
 pub decided_there : (o : Option Object) (m : Option Provisions) → false ≡ missing o → of_decision (decision_of m) ≡ verdict_at o m
 decided_there none m e = no (sym e)
@@ -83,7 +84,7 @@ module _ (q : Question) (d : things.Dossier) {l : Address} (e : l ≡ q.path) {b
   pub absent_there : b ≡ true → verdicts.Refused 3 ≡ verdict_in q d
   absent_there t = not_there (object_at q.path q.name d) (may_ask_in q d) (sym t ∙ h ∙ ap (λ k. missing (object_at k q.name d)) e)
 
-  pub decided_on_it : {r : Decision} → b ≡ false → r ≡ decision_of (may_ask q (object_at l q.name d) (node_at l d)) → of_decision r ≡ verdict_in q d
+  pub decided_on_it : {r : std.Option grants.Provisions} → b ≡ false → r ≡ decision_of (may_ask q (object_at l q.name d) (node_at l d)) → of_decision r ≡ verdict_in q d
   decided_on_it f m =
       ap of_decision (m ∙ ap (λ k. decision_of (may_ask q (object_at k q.name d) (node_at k d))) e)
       ∙ decided_there (object_at q.path q.name d) (may_ask_in q d) (sym f ∙ h ∙ ap (λ k. missing (object_at k q.name d)) e)

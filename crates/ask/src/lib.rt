@@ -16,7 +16,7 @@ ghost use Rattle.ask.specs.Verdict.{view_question, verdict_on, verdict_in};
 
 use decide::{change_node, joined, owner_of, read_attribute, read_node};
 use encode::put4;
-use grants::{Decision, Subject};
+use grants::{Provisions, Subject};
 use image::load;
 use path::{Path, RawPath, is_valid, path_of};
 use tables::{Dossier, Owner};
@@ -62,7 +62,7 @@ fn absent(d: Dossier, p: Path, name: u16) -> bool
 }
 
 // Read of the object: the node for name 0, else the attribute of that name.
-fn may_read(d: Dossier, p: Path, name: u16, s: Subject) -> Decision
+fn may_read(d: Dossier, p: Path, name: u16, s: Subject) -> Option<Provisions>
     requires { DossierFits d × PathSound p }
     ensures { result ≡ decision_of (given (read_by (view_subject s)) (object_at (steps p) name (view_dossier d))) }
 {
@@ -73,7 +73,7 @@ fn may_read(d: Dossier, p: Path, name: u16, s: Subject) -> Decision
 }
 
 // What is asked for, granted or not. Change of an attribute needs its read and the change of its node.
-fn may(d: Dossier, p: Path, q: Question) -> Decision
+fn may(d: Dossier, p: Path, q: Question) -> Option<Provisions>
     requires { DossierFits d × PathSound p }
     ensures { result ≡ decision_of (run.may_ask (view_question q) (object_at (steps p) q.name (view_dossier d)) (node_at (steps p) (view_dossier d))) }
 {
@@ -99,8 +99,8 @@ fn decided_on(d: Dossier, q: Question) -> Verdict
         return Verdict::Refused(3);
     }
     match may(d, p, q) {
-        Decision::Denied => Verdict::Refused(6),
-        Decision::Granted(m, a) => Verdict::Granted(m, a),
+        None => Verdict::Refused(6),
+        Some(p) => Verdict::Granted(p.messages, p.agreements),
     }
 }
 

@@ -2,7 +2,7 @@
 ghost use Rattle.path.specs.View.{PathSound};
 ghost use Rattle.tables.specs.View.{NodesSound, AttributesSound, PermissionsSound};
 
-use grants::Decision;
+use grants::Provisions;
 use path::Path;
 use tables::{Attribute, Attributes, Grant, Node, Nodes, Permission, Permissions, Span, Value};
 
@@ -198,12 +198,12 @@ pub fn permissions(rt: &impl Print, t: Permissions)
 
 // ---- decisions
 
-pub fn decision(rt: &impl Print, d: Decision) {
+pub fn decision(rt: &impl Print, d: Option<Provisions>) {
     match d {
-        Decision::Denied => text(rt, b"denied\n"),
-        Decision::Granted(m, a) => {
+        None => text(rt, b"denied\n"),
+        Some(p) => {
             text(rt, b"granted,");
-            provisions(rt, m, a);
+            provisions(rt, p.messages, p.agreements);
             text(rt, b"\n");
         }
     }

@@ -1,3 +1,2 @@
-pub mod Objects
-pub mod Rows
 pub mod Numbers
+pub mod Objects

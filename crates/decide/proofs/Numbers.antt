@@ -1,14 +1,14 @@
 -- What a request needs, at the number that it has. Assumes nothing.
 use mathlib.Core.Path.{◌≡◌, sym, ap, subst, ◌∙◌}
 use mathlib.Core.List.{List}
+use Rattle.std.specs.Prelude as std
 use Prim.Native.Nat.{ℕ}
 use Rattle.path.specs.View.{steps}
 use Rattle.model.specs.Things.{Row, Permission}
 use Rattle.model.specs.Decide as model
 use Rattle.model.specs.Moves.{permissions_in}
 use Rattle.model.specs.Refusals as refusals
-use Rattle.tables.specs.declared.Owner.{Owner}
-use Rattle.grants.specs.declared.Decision.{Decision}
+use Rattle.grants.specs.declared.Provisions.{Provisions}
 use Rattle.grants.specs.declared.Walk.{Walk}
 use Rattle.grants.specs.View.{view_subject, decision_of}
 use Rattle.decide.specs.declared.Asked.{Asked}
@@ -22,10 +22,10 @@ numbered a n = view_asked (record { number = n; subject = a.subject; path = a.pa
 
 module _ (a : Asked) (o : Owners) (l : List (Row (ℕ × Permission))) where
   -- the decision, were n the number
-  abbrev pub decided : ℕ → Decision
+  abbrev pub decided : ℕ → std.Option Provisions
   decided n = decision_of (refusals.granted (numbered a n) (found_by (numbered a n) o l))
 
-  pub one : {r : Decision} {k : ℕ} → a.number ≡ k → r ≡ decided k → r ≡ decided a.number
+  pub one : {r : std.Option Provisions} {k : ℕ} → a.number ≡ k → r ≡ decided k → r ≡ decided a.number
   one {r} e h = subst (λ n. r ≡ decided n) (sym e) h
 
   abbrev subject : model.Subject
@@ -36,16 +36,13 @@ module _ (a : Asked) (o : Owners) (l : List (Row (ℕ × Permission))) where
     walk_at : w ≡ object_walk (numbered a k) l
     walk_at = g ∙ ap (λ n. object_walk (numbered a n) l) e
 
-    pub reads : (u : Owner) (n : ℕ) {r : Decision} → (object_walk (numbered a k) l).read ≡ decision_of (model.matched subject 1 (permissions_in (steps a.path) n l))
+    pub reads : (u : std.Option ℕ) (n : ℕ) {r : std.Option Provisions} → (object_walk (numbered a k) l).read ≡ decision_of (model.matched subject 1 (permissions_in (steps a.path) n l))
         → r ≡ owned_or u a.subject.user w.read → r ≡ decision_of (model.given (model.read_by subject) (object_owned u (permissions_in (steps a.path) n l)))
     reads u n f h =
         h ∙ ap (owned_or u a.subject.user) (ap (λ (x : Walk). x.read) walk_at ∙ f) ∙ owned_given a.subject.user (model.matched subject 1) u (permissions_in (steps a.path) n l)
 
-    pub delegates : w.delegate ≡ (object_walk (numbered a k) l).delegate
-    delegates = ap (λ (x : Walk). x.delegate) walk_at
-
   -- d: what the permissions of the node give whose permissions are m
-  pub changes : {d : Decision} → d ≡ change_given (view_asked a) l → {k : ℕ} → a.number ≡ k → (u : Owner) (m : List Permission) {r : Decision}
+  pub changes : {d : std.Option Provisions} → d ≡ change_given (view_asked a) l → {k : ℕ} → a.number ≡ k → (u : std.Option ℕ) (m : List Permission) {r : std.Option Provisions}
       → change_given (numbered a k) l ≡ decision_of (model.joined (model.matched subject 1 m) (model.matched subject 2 m))
       → r ≡ owned_or u a.subject.user d → r ≡ decision_of (model.given (model.change_by subject) (object_owned u m))
   changes g e u m f h =

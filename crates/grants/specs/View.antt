@@ -1,13 +1,12 @@
 -- The structs of this crate and the model.
 use Rattle.std.proofs.Math.Option.{Option, none, some}
-use Rattle.std.specs.Prelude.{List}
+use Rattle.std.specs.Prelude as std
+use Rattle.std.specs.Prelude.{List, Some, None}
 use Rattle.model.specs.Decide as model
-use Rattle.model.specs.Decide.{Provisions}
 use Rattle.model.specs.Moves.{holds}
 use Rattle.model.specs.Things.{Permission}
 use Rattle.grants.specs.declared.Subject.{Subject}
-use Rattle.grants.specs.declared.Decision.{Decision}
-use Rattle.grants.specs.declared.Decision.TheVariants.{Denied, Granted}
+use Rattle.grants.specs.declared.Provisions.{Provisions}
 use Rattle.grants.specs.declared.Walk.{Walk}
 use Rattle.grants.specs.declared.Weights.{Weights}
 
@@ -15,18 +14,13 @@ abbrev pub view_subject : Subject → model.Subject
 view_subject s = record { role = s.role; user = s.user; time = s.time }
 
 -- the meaning of a decision: none, or the provisions
-abbrev pub decision_of : Option Provisions → Decision
-decision_of none = Denied
-decision_of (some p) = Granted p.messages p.agreements
+abbrev pub decision_of : Option model.Provisions → std.Option Provisions
+decision_of none = None
+decision_of (some p) = Some (record { messages = p.messages; agreements = p.agreements })
 
-abbrev pub view_decision : Decision → Option Provisions
-view_decision Denied = none
-view_decision (Granted m a) = some (record { messages = m; agreements = a })
-
--- what was decided before, or else by the next
-abbrev pub first_of : Decision → Option Provisions → Decision
-first_of Denied o = decision_of o
-first_of (Granted m a) o = Granted m a
+abbrev pub view_decision : std.Option Provisions → Option model.Provisions
+view_decision None = none
+view_decision (Some p) = some (record { messages = p.messages; agreements = p.agreements })
 
 -- what an object's permissions give the subject: "read 1, change 2, delegate 4"
 abbrev pub walk_of : model.Subject → List Permission → Walk

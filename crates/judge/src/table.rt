@@ -11,7 +11,7 @@ ghost use Rattle.refusals.specs.Look.{SeenSound};
 ghost use Rattle.judge.specs.View.{standing_of, judged_of, judged_in, Passed};
 
 use crate::Judged;
-use grants::Decision;
+use grants::Provisions;
 use operands::bad_operand;
 use refusals::look::looked;
 use refusals::place::{absent, at_root, placed, taken, wrong_clipboard};
@@ -23,31 +23,12 @@ use tables::Dossier;
 
 // ---- 6: what is granted, and with which provisions
 
-fn is_denied(may: Decision) -> bool
-    ensures { result ≡ refusals.missing (view_decision may) }
+// What is asked for of what is granted.
+fn provisions_of(may: Option<Provisions>) -> Provisions
+    ensures messages { result.messages ≡ (refusals.provisions (view_decision may)).messages }
+    ensures agreements { result.agreements ≡ (refusals.provisions (view_decision may)).agreements }
 {
-    match may {
-        Decision::Denied => true,
-        Decision::Granted(_, _) => false,
-    }
-}
-
-fn messages_of(may: Decision) -> u32
-    ensures { result ≡ (refusals.provisions (view_decision may)).messages }
-{
-    match may {
-        Decision::Denied => 0,
-        Decision::Granted(m, _) => m,
-    }
-}
-
-fn agreements_of(may: Decision) -> u32
-    ensures { result ≡ (refusals.provisions (view_decision may)).agreements }
-{
-    match may {
-        Decision::Denied => 0,
-        Decision::Granted(_, a) => a,
-    }
+    may.unwrap_or_default()
 }
 
 // ---- the tests in their order; each answer is asked before, so that the order stands by itself
@@ -57,13 +38,12 @@ fn judged_granted(s: Seen, c: Cache, signed: u32, entries: usize, q: Placed) -> 
     requires { SeenSound s × CacheSound c × (entries ≤ 256) × PathSound q.path × Passed s c q }
     ensures { result ≡ judged_in s c signed entries q }
 {
-    let may = s.may;
-    let messages = messages_of(may);
+    let asked = provisions_of(s.may);
     let bare = uncovered(s, q);
     let clash = clashing(s, q);
     let shelf = shelf_for(s, c, q);
-    let unread = unsigned(agreements_of(may), signed);
-    let late = log_full(messages, entries);
+    let unread = unsigned(asked.agreements, signed);
+    let late = log_full(asked.messages, entries);
     if bare {
         return Judged::Refused(7);
     }
@@ -79,7 +59,7 @@ fn judged_granted(s: Seen, c: Cache, signed: u32, entries: usize, q: Placed) -> 
             if late {
                 return Judged::Refused(11);
             }
-            Judged::Allowed(messages)
+            Judged::Allowed(asked.messages)
         }
     }
 }
@@ -89,12 +69,11 @@ fn judged_placed(s: Seen, c: Cache, signed: u32, entries: usize, q: Placed) -> J
     requires { SeenSound s × CacheSound c × (entries ≤ 256) × PathSound q.path }
     ensures { result ≡ judged_in s c signed entries q }
 {
-    let may = s.may;
     let root = at_root(q);
     let gone = absent(s, q);
     let there = taken(s, q);
     let other = wrong_clipboard(c, q);
-    let denied = is_denied(may);
+    let denied = s.may.is_none();
     if root {
         return Judged::Refused(2);
     }

@@ -7,7 +7,7 @@ ghost use Rattle.tables.specs.View.{view_clipboard, ClipboardSound};
 ghost use Rattle.refusals.specs.View.{view_cache, CacheSound};
 
 use counts::deepest_in;
-use grants::Decision;
+use grants::Provisions;
 use path::Path;
 use tables::{Clipboard, Found, Grant, Owner, Value};
 
@@ -42,7 +42,7 @@ pub struct Seen {
     pub nodes: usize,
     pub attributes: usize,
     pub permissions: usize,
-    pub may: Decision,
+    pub may: Option<Provisions>,
     pub held: bool,
     pub covered: bool,
     pub clashing: bool,

@@ -12,7 +12,7 @@ ghost use Rattle.refusals.specs.Look.{around_in, held_for, weights_for, seen_of}
 use crate::{Placed, Seen};
 use counts::children_in;
 use decide::{Asked, Owners, object_owner, owner_found, rights};
-use grants::{Decision, Subject, Weights, weighed};
+use grants::{Provisions, Subject, Weights, weighed};
 use lookups::{Held, held_at, owner_in};
 use path::{Path, parent_of};
 use tables::{Attributes, Dossier, Found, Nodes, Owner, Permissions};
@@ -67,7 +67,7 @@ fn subject_of(q: Placed) -> Subject
     }
 }
 
-fn granted_to(t: Permissions, q: Placed, o: Owners) -> Decision
+fn granted_to(t: Permissions, q: Placed, o: Owners) -> Option<Provisions>
     requires { PermissionsSound t × PathSound q.path }
     ensures { result ≡ decision_of (refusals.granted (view_placed q) (found_by (view_placed q) o (view_permissions t))) }
 {

@@ -12,16 +12,16 @@ returns-then-absent c =
     let a = c.args in
     absent_there (view_question a.q) (view_dossier a.d) (ap steps c.path_of-p.ensures ∙ view_path (asked a.q.path)) c.absent.ensures c.if-absent.true
 
-pub returns-in-Denied : goal.returns-in-Denied
-returns-in-Denied c =
+pub returns-in-None : goal.returns-in-None
+returns-in-None c =
     let a = c.args in
-    ap of_decision (sym c.in-Denied.is)
+    ap of_decision (sym c.in-None.is)
     ∙ decided_on_it (view_question a.q) (view_dossier a.d) (ap steps c.path_of-p.ensures ∙ view_path (asked a.q.path)) c.absent.ensures
     c.if-absent.false c.may.ensures
 
-pub returns-in-Granted : goal.returns-in-Granted
-returns-in-Granted c =
+pub returns-in-Some : goal.returns-in-Some
+returns-in-Some c =
     let a = c.args in
-    ap of_decision (sym c.in-Granted.is)
+    ap of_decision (sym c.in-Some.is)
     ∙ decided_on_it (view_question a.q) (view_dossier a.d) (ap steps c.path_of-p.ensures ∙ view_path (asked a.q.path)) c.absent.ensures
     c.if-absent.false c.may.ensures

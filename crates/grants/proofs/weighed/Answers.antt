@@ -1,78 +1,30 @@
--- `grants::weighed` meets its contract: the walk begins at the object's place, compares each of its permissions with the one, and ends at the first row of another object. Assumes nothing.
-use Prim.Native.Nat.{◌+◌, ◌-◌, ◌/◌, ◌<◌, ℕ}
-use Rattle.grants.proofs.Gather.{gather_all, gather_other, gather_row}
-use Rattle.grants.proofs.Told.{weights_from, weights_next}
-use Rattle.grants.specs.View.{view_subject}
-use Rattle.laws.proofs.Fill.{held_each, held_room}
-use Rattle.laws.proofs.Search.{place_most, row_side}
-use Rattle.path.specs.View.{steps}
-use Rattle.tables.proofs.Places.{permissions_searched}
-use Rattle.tables.proofs.Rows.{permission_path, permissions_held}
-use Rattle.tables.specs.Places.{permission_place}
-use Rattle.tables.specs.View.{no_permission, view_grant, view_permissions}
+-- `grants::weighed` meets its contract: of the object's permissions, one is the same, one covers, one clashes. Assumes nothing.
+use mathlib.Core.Path.{refl, ap, ◌∙◌}
+use mathlib.Core.Bool.{Bool}
 use borrow.Author.Rules.{rules}
-use borrow.Author.Tests.{ltb-false, ltb-true}
-use lib.Dec.{ltb}
-use lib.ListN.{get_or}
-use mathlib.Core.Bool.{false, ◌||◌}
-use mathlib.Core.Path.{◌∙◌, ◌≡◌, sym}
-use native.Mathlib.Omega.{arith}
+use borrow.Author.Tests.{tests}
+use Rattle.std.proofs.lemmas.Iterator.{YieldsList-from_slice}
+use Rattle.std.proofs.lemmas.Iterator.Search.{any_from_yields_List}
+use Rattle.model.specs.Decide as model
+use Rattle.model.specs.Moves.{holds, same_permission}
+use Rattle.tables.specs.View.{view_grant}
+use Rattle.grants.specs.View.{view_subject, weights_of}
+use Rattle.grants.specs.declared.Weights.{Weights}
+use Rattle.grants.proofs.Told.{any_told}
 use Rattle.grants.proofs.weighed.Goals as goal
-use Rattle.grants.proofs.weighed.Goals.{After-object_before, In-loop-i}
 
-pub loop-i-init : goal.loop-i-init
-loop-i-init c = (search rules, place_most (permissions_searched c.requires.0) (steps c.args.p, c.args.name), search rules, held_room _ _ _ _ _ _ (permissions_held c.args.t c.requires.0))
+abbrev weights : Bool → Bool → Bool → Weights
+weights held covered clashing = record { held = held; covered = covered; clashing = clashing }
 
--- the row looked at, the place looked for; the row is there, and its test says on which side of it the place is
-abbrev mid : In-loop-i → ℕ
-mid c = c.loop-i.i + (c.loop-i.hi - c.loop-i.i) / 2
-
-abbrev sought : In-loop-i → ℕ
-sought c = permission_place (steps c.args.p, c.args.name) (view_permissions c.args.t)
-
-inside : (c : In-loop-i) → mid c < c.args.t.count
-inside c = omega arith
-
-side : (c : After-object_before) → ltb (mid (goal.at-After-object_before c).In-loop-i) (sought (goal.at-After-object_before c).In-loop-i) ≡ c.object_before.result
-side c =
-    row_side (permissions_searched c.requires.0) (steps c.args.p, c.args.name) (mid (goal.at-After-object_before c).In-loop-i) no_permission (inside (goal.at-After-object_before c).In-loop-i) ∙ sym c.object_before.ensures
-
-pub object_before-requires : goal.object_before-requires
-object_before-requires c =
-    (permission_path (held_each _ _ _ _ _ _ (permissions_held c.args.t c.requires.0) (mid (goal.at.object_before-requires c).In-loop-i) no_permission (inside (goal.at.object_before-requires c).In-loop-i)), c.requires.1)
-
-pub loop-i-preserved-then-object_before : goal.loop-i-preserved-then-object_before
-loop-i-preserved-then-object_before c = let f = ltb-true (mid (goal.at.loop-i-preserved-then-object_before c).In-loop-i) (sought (goal.at.loop-i-preserved-then-object_before c).In-loop-i) (side (goal.at.loop-i-preserved-then-object_before c).After-object_before ∙ c.if-object_before.true) in omega arith
-
-pub loop-i-preserved : goal.loop-i-preserved
-loop-i-preserved c = let f = ltb-false (mid (goal.at.loop-i-preserved c).In-loop-i) (sought (goal.at.loop-i-preserved c).In-loop-i) (side (goal.at.loop-i-preserved c).After-object_before ∙ c.if-object_before.false) in omega arith
-
-pub loop-i-2-init : goal.loop-i-2-init
-loop-i-2-init c =
-    let l = c.loop-i in
-    let e : l.i ≡ permission_place (steps c.args.p, c.args.name) (view_permissions c.args.t) = omega arith in
-    (omega arith, l.invariant.3, gather_all (weights_from false false false (view_subject c.args.s) (view_grant c.args.g)) _ _ _ l.i c.requires.0 e)
-
-pub is_same-requires : goal.is_same-requires
-is_same-requires c =
-    let row = held_each _ _ _ _ _ _ (permissions_held c.args.t c.requires.0) c.loop-i-2.i no_permission c.loop-i-2-test.true in
-    (permission_path row, c.requires.1)
-
-pub loop-i-2-preserved-then-one-name : goal.loop-i-2-preserved-then-one-name
-loop-i-2-preserved-then-one-name c =
-    let l = c.loop-i-2 in
-    let a = view_subject c.args.s in
+pub returns : goal.returns
+returns c =
+    let s = view_subject c.args.s in
     let g = view_grant c.args.g in
-    let next = weights_next l.held l.covered l.clashing a g (view_grant (get_or c.args.t.rows l.i no_permission).grant) c.same_grant-held.ensures c.covers-covered.ensures c.clash-clashing.ensures in (
-      search rules,
-      search rules,
-      gather_row (weights_from l.held l.covered l.clashing a g) _ _ _ l.i l.invariant.2 c.requires.0 c.loop-i-2-test.true c.is_same.ensures
-          (weights_from (l.held || c.same_grant-held.result) (l.covered || c.covers-covered.result) (l.clashing || c.clash-clashing.result) a g) c.if-one-name.true next,
-    )
-
-pub loop-i-2-preserved : goal.loop-i-2-preserved
-loop-i-2-preserved c =
-    let l = c.loop-i-2 in
-    let a = view_subject c.args.s in
-    let g = view_grant c.args.g in
-    (search rules, search rules, gather_other (weights_from l.held l.covered l.clashing a g) _ _ _ l.i l.invariant.2 c.requires.0 c.loop-i-2-test.true c.is_same.ensures c.if-one-name.false)
+    let rows = c.permissions_at-rows.result.now in
+    let e = any_from_yields_List (λ a. same_permission g (view_grant a.grant)) _ _ c.any.result c.any.ensures.ran (YieldsList-from_slice rows cc) (λ x b q k. search (rules, tests))
+    ∙ any_told (λ a. view_grant a.grant) (same_permission g) (holds g) refl (λ x l. refl) rows in
+    let f = any_from_yields_List (λ a. model.covers s g (view_grant a.grant)) _ _ c.any-2.result c.any-2.ensures.ran (YieldsList-from_slice rows cc) (λ x b q k. search (rules, tests))
+    ∙ any_told (λ a. view_grant a.grant) (model.covers s g) (model.cover_any s g) refl (λ x l. refl) rows in
+    let h = any_from_yields_List (λ a. model.clash g (view_grant a.grant)) _ _ c.any-3.result c.any-3.ensures.ran (YieldsList-from_slice rows cc) (λ x b q k. search (rules, tests))
+    ∙ any_told (λ a. view_grant a.grant) (model.clash g) (model.clash_any g) refl (λ x l. refl) rows in
+    (λ i. weights (e i) (f i) (h i)) ∙ ap (weights_of s g) c.permissions_at-rows.ensures
