@@ -11,7 +11,7 @@ use lib.IntN.{ℤ, pos, negsuc}
 use mir.Syntax.{w64}
 use mir.Val.{SFits}
 use Rattle.std.specs.Prelude as std
-use Rattle.std.specs.Prelude.{Some, None}
+use Rattle.std.specs.Prelude.{Some, None, is_none}
 use Rattle.path.specs.Address.{Address, valid}
 use Rattle.path.proofs.Structs.{no}
 use Rattle.model.specs.Things as things
@@ -21,8 +21,6 @@ use Rattle.model.specs.Refusals.{missing, role_good, user_good, time_good, betwe
 use Rattle.model.specs.Image as images
 use Rattle.model.specs.Run.{Question, bad_question, asker, may_ask, may_ask_in, image_of}
 use Rattle.roundtrip.proofs.SaveLoad.{load_sound}
-use Rattle.tables.specs.declared.Owner.{Owner}
-use Rattle.tables.specs.declared.Owner.TheVariants.{Nobody, User}
 use Rattle.tables.specs.View.{view_dossier, DossierFits}
 use Rattle.tables.proofs.Rows.{view_dossier_lem}
 use Rattle.tables.proofs.Parts.{dossier_fits}
@@ -38,11 +36,7 @@ use Rattle.ask.specs.declared.Verdict.TheVariants as verdicts
 use Rattle.ask.specs.Verdict.{verdict_on, verdict_at, verdict_in}
 
 -- ---- 3: whose an object is says whether it is there
-abbrev pub nobody : Owner → Bool
-nobody Nobody = true
-nobody (User u) = false
-
-pub owner_missing : (o : Option Object) → nobody (object_owner o) ≡ missing o
+pub owner_missing : (o : Option Object) → is_none (object_owner o) ≡ missing o
 owner_missing none = refl
 owner_missing (some o) = refl
 

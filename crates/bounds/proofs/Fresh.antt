@@ -18,29 +18,28 @@ use Rattle.model.specs.Things.{Attribute, Permission, Row}
 use Rattle.model.specs.Decide.{clash, clash_any}
 use Rattle.model.specs.Image.{there}
 use Rattle.model.specs.Moves.{at, named, owner_in, attribute_in, permissions_in}
-use Rattle.tables.specs.declared.Owner.{Owner}
-use Rattle.tables.specs.declared.Owner.TheVariants.{Nobody}
+use Rattle.std.specs.Prelude.{None}
+use Rattle.std.proofs.Common as rust
 use Rattle.tables.specs.declared.Found.{Found}
-use Rattle.tables.specs.declared.Found.TheVariants.{Absent}
 use Rattle.tables.specs.View.{owner_of, found_of}
 use Rattle.roundtrip.proofs.Found.{there_head}
 use Rattle.moves.specs.Room.{FreshNode, FreshAttribute, FreshPermission}
 
 -- ---- no owner, no node
-nobody : (o : Option ℕ) → Nobody ≡ owner_of o → o ≡ none
+nobody : (o : Option ℕ) → None ≡ owner_of o → o ≡ none
 nobody none e = refl
 nobody (some u) e = let z : ◌≡◌ {A = ℕ} 0 1 = cc in absurd (omega arith)
 
-pub node_new : {a : Owner} (p : Address) (u : ℕ) (l : List (Row ℕ)) → a ≡ owner_of (owner_in p l) → a ≡ Nobody → FreshNode (p, u) l
+pub node_new : {a : rust.Option ℕ} (p : Address) (u : ℕ) (l : List (Row ℕ)) → a ≡ owner_of (owner_in p l) → a ≡ None → FreshNode (p, u) l
 node_new p u l e n h =
     subst (λ o. T (there o)) (nobody (owner_in p l) (sym n ∙ e)) (there_head (move_in (at p) h (pick_yes (same p p) (some u) none (same_refl p))))
 
 -- ---- no attribute
-absent : (o : Option Attribute) → Absent ≡ found_of o → o ≡ none
+absent : (o : Option Attribute) → None ≡ found_of o → o ≡ none
 absent none e = refl
 absent (some a) e = let z : ◌≡◌ {A = ℕ} 0 1 = cc in absurd (omega arith)
 
-pub attribute_new : {r : Found} (p : Address) (a : Attribute) (l : List (Row Attribute)) → r ≡ found_of (attribute_in p a.name l) → r ≡ Absent → FreshAttribute (p, a) l
+pub attribute_new : {r : rust.Option Found} (p : Address) (a : Attribute) (l : List (Row Attribute)) → r ≡ found_of (attribute_in p a.name l) → r ≡ None → FreshAttribute (p, a) l
 attribute_new p a l e n = absent (attribute_in p a.name l) (sym n ∙ e)
 
 -- ---- no clash, of a permission that clashes with itself

@@ -7,7 +7,7 @@ use grants::{clash, clash_in};
 use lookups::{attribute_in, owner_in};
 use path::{Path, RawPath};
 use tables::{
-    Attribute, Attributes, Dossier, Found, Grant, Node, Nodes, Owner, Permission, Permissions,
+    Attribute, Attributes, Dossier, Grant, Node, Nodes, Permission, Permissions,
     Span, Value,
 };
 
@@ -48,7 +48,7 @@ fn with_node(t: Nodes, p: Path, owner: u8) -> Nodes
     ensures { NodesSound result }
 {
     match owner_in(t, p) {
-        Owner::Nobody => {
+        None => {
             if 64 <= t.count {
                 return t;
             }
@@ -59,7 +59,7 @@ fn with_node(t: Nodes, p: Path, owner: u8) -> Nodes
             };
             nodes::insert(a, t)
         }
-        Owner::User(_) => t,
+        Some(_) => t,
     }
 }
 
@@ -113,7 +113,7 @@ fn with_attribute(t: Attributes, p: Path, name: u16, owner: u8, value: Value) ->
     ensures { AttributesSound result }
 {
     match attribute_in(t, p, name) {
-        Found::Absent => {
+        None => {
             if 256 <= t.count {
                 return t;
             }
@@ -125,7 +125,7 @@ fn with_attribute(t: Attributes, p: Path, name: u16, owner: u8, value: Value) ->
             };
             attributes::insert(a, t)
         }
-        Found::Present(_, _) => t,
+        Some(_) => t,
     }
 }
 

@@ -7,7 +7,7 @@ use crate::show::text;
 use crate::{fill, show};
 use lookups::{attribute_in, count_on, holds_in, names_in, owner_in};
 use path::Path;
-use tables::{Attributes, Found, Grant, Names, Nodes, Owner, Permissions, Span};
+use tables::{Attributes, Grant, Names, Nodes, Permissions, Span};
 
 pub fn lookups(rt: &impl Print, n: Nodes, a: Attributes, q: Permissions)
     requires { NodesSound n × AttributesSound a × PermissionsSound q }
@@ -39,8 +39,8 @@ fn node(rt: &impl Print, t: Nodes, p: Path)
     text(rt, b"node ");
     show::address(rt, p);
     match owner_in(t, p) {
-        Owner::Nobody => text(rt, b" absent\n"),
-        Owner::User(u) => show::line(rt, b" owner ", u as usize),
+        None => text(rt, b" absent\n"),
+        Some(u) => show::line(rt, b" owner ", u as usize),
     }
 }
 
@@ -83,10 +83,10 @@ fn attribute(rt: &impl Print, t: Attributes, p: Path, name: u16)
     show::address(rt, p);
     let _ = print!(rt; " {name}");
     match attribute_in(t, p, name) {
-        Found::Absent => text(rt, b" absent\n"),
-        Found::Present(u, v) => {
-            let _ = print!(rt; " owner {u} ");
-            show::value(rt, v);
+        None => text(rt, b" absent\n"),
+        Some(found) => {
+            let _ = print!(rt; " owner {} ", found.owner);
+            show::value(rt, found.value);
             text(rt, b"\n");
         }
     }

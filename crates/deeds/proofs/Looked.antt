@@ -9,7 +9,8 @@ use Rattle.model.specs.Moves.{permissions_for, attribute_at, copied}
 use Rattle.model.specs.Image.{there}
 use Rattle.model.specs.Run as run
 use Rattle.tables.specs.declared.Found.{Found}
-use Rattle.tables.specs.declared.Found.TheVariants.{Absent, Present}
+use Rattle.std.specs.Prelude.{None, Some}
+use Rattle.std.proofs.Common as rust
 use Rattle.tables.specs.View.{view_value, found_of}
 use Rattle.tables.proofs.Rows.{value_back}
 use Rattle.attributes.proofs.Values.{attribute_found}
@@ -18,18 +19,18 @@ use Rattle.state.specs.declared.Reply.TheVariants.{Done, ValueRead}
 use Rattle.state.specs.View.{Answer, answer_of}
 
 -- ---- its value
-abbrev pub value_found : Found → Answer
-value_found Absent = Ok Done
-value_found (Present owner v) = Ok (ValueRead v)
+abbrev pub value_found : rust.Option Found → Answer
+value_found None = Ok Done
+value_found (Some f) = Ok (ValueRead f.value)
 
 pub value_found_lem : (o : Option Attribute) → value_found (found_of o) ≡ answer_of (run.value_of o)
 value_found_lem none = refl
 value_found_lem (some a) = refl
 
 -- ---- with its permissions, under its own name
-abbrev pub clip_found : Address → ℕ → Dossier → Found → Clipboard
-clip_found p n d Absent = empty
-clip_found p n d (Present owner v) = single (record { name = n; owner = owner; value = view_value v }) (permissions_for p n d)
+abbrev pub clip_found : Address → ℕ → Dossier → rust.Option Found → Clipboard
+clip_found p n d None = empty
+clip_found p n d (Some f) = single (record { name = n; owner = f.owner; value = view_value f.value }) (permissions_for p n d)
 
 pub clip_found_lem : (p : Address) (n : ℕ) (d : Dossier) → clip_found p n d (found_of (attribute_at p n d)) ≡ copied p n d empty (attribute_at p n d)
 clip_found_lem p n d = go (attribute_at p n d) (λ a e. (attribute_found p n a d.attributes e).1)

@@ -13,7 +13,7 @@ use edits;
 use lookups::{attribute_in, names_in};
 use refusals::Placed;
 use state::{Answer, Reply};
-use tables::{Attribute, Clipboard, Dossier, Found};
+use tables::{Attribute, Clipboard, Dossier};
 
 // 1: the names on the node, ascending, and its child count.
 pub fn read_node(d: Dossier, q: Placed) -> Answer
@@ -30,8 +30,8 @@ pub fn read_attribute(d: Dossier, q: Placed) -> Answer
     ensures { result ≡ answer_of (run.value_of (model.attribute_at (steps q.path) q.name (view_dossier d))) }
 {
     match attribute_in(d.attributes, q.path, q.name) {
-        Found::Absent => Ok(Reply::Done),
-        Found::Present(_, v) => Ok(Reply::ValueRead(v)),
+        None => Ok(Reply::Done),
+        Some(found) => Ok(Reply::ValueRead(found.value)),
     }
 }
 
@@ -49,14 +49,13 @@ pub fn copy_attribute(d: Dossier, q: Placed) -> Clipboard
     ensures { result ≡ clipboard_of (model.copied (steps q.path) q.name (view_dossier d) things.empty (model.attribute_at (steps q.path) q.name (view_dossier d))) }
 {
     match attribute_in(d.attributes, q.path, q.name) {
-        Found::Absent => edits::empty_clipboard(),
-        Found::Present(owner, v) => {
-            let p = q.path;
+        None => edits::empty_clipboard(),
+        Some(found) => {
             let a = Attribute {
-                path: p,
+                path: q.path,
                 name: q.name,
-                owner: owner,
-                value: v,
+                owner: found.owner,
+                value: found.value,
             };
             edits::copy_attribute(d, a)
         }

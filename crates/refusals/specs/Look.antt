@@ -1,5 +1,5 @@
 -- What is seen of a dossier for a request, and the tests on that alone.
-use Rattle.std.specs.Prelude.{Bool, true, false, ◌&&◌, ◌||◌, not, List, [], ◌∷◌, ℕ, ◌+◌, ◌≤◌, eqb, ltb, length, replicate}
+use Rattle.std.specs.Prelude.{None, is_none, Bool, false, ◌&&◌, ◌||◌, not, List, [], ◌∷◌, ℕ, ◌+◌, ◌≤◌, eqb, ltb, length, replicate}
 use Rattle.std.proofs.Math.Option.{Option, none}
 use Rattle.laws.specs.Slots.{pick}
 use Rattle.path.specs.Address.{Address, parent, last}
@@ -9,10 +9,6 @@ use Rattle.model.specs.Moves.{owner_in, children_in}
 use Rattle.model.specs.Refusals as refusals
 use Rattle.model.specs.Refusals.{Request, among, choose, subject, permissions_of}
 use Rattle.tables.specs.declared.Dossier.{Dossier}
-use Rattle.tables.specs.declared.Owner.{Owner}
-use Rattle.tables.specs.declared.Owner.TheVariants.{Nobody, User}
-use Rattle.tables.specs.declared.Found.{Found}
-use Rattle.tables.specs.declared.Found.TheVariants.{Absent, Present}
 use Rattle.tables.specs.View.{owner_of, view_nodes, view_attributes, view_permissions}
 use Rattle.grants.specs.declared.Weights.{Weights}
 use Rattle.grants.specs.View.{decision_of, weights_of}
@@ -37,7 +33,7 @@ abbrev pub weighing : List ℕ
 weighing = 14 ∷ 15 ∷ 16 ∷ []
 
 abbrev pub held_for : Request → List (Row Attribute) → Held
-held_for r l = pick (among r.number bare) (record { found = Absent; names = 0 }) (held_in r.path r.name l)
+held_for r l = pick (among r.number bare) (record { found = None; names = 0 }) (held_in r.path r.name l)
 
 abbrev pub weights_for : Request → Option Object → Weights
 weights_for r o = pick (among r.number weighing) (weights_of (subject r) r.permission (permissions_of o)) (record { held = false; covered = false; clashing = false })
@@ -69,26 +65,18 @@ pub record SeenSound (s : Seen) : Type 0 where
   pub permissions : s.permissions ≤ 128
 
 -- ---- the tests
-abbrev pub ownerless : Owner → Bool
-ownerless Nobody = true
-ownerless (User u) = false
-
-abbrev pub unfound : Found → Bool
-unfound Absent = true
-unfound (Present u v) = false
-
 abbrev pub absent_in : Seen → Request → Bool
 absent_in s r =
     choose r.number false
-    ((1 ∷ 4 ∷ 5 ∷ 6 ∷ 8 ∷ 13 ∷ [], ownerless s.node)
-    ∷ (2 ∷ 9 ∷ 10 ∷ 11 ∷ 12 ∷ [], unfound s.attribute)
-    ∷ (3 ∷ 7 ∷ 17 ∷ [], ownerless s.parent || ltb (s.siblings + 1) (last r.path))
-    ∷ (14 ∷ 16 ∷ [], pick (eqb r.name 0) (ownerless s.node) (unfound s.attribute))
+    ((1 ∷ 4 ∷ 5 ∷ 6 ∷ 8 ∷ 13 ∷ [], is_none s.node)
+    ∷ (2 ∷ 9 ∷ 10 ∷ 11 ∷ 12 ∷ [], is_none s.attribute)
+    ∷ (3 ∷ 7 ∷ 17 ∷ [], is_none s.parent || ltb (s.siblings + 1) (last r.path))
+    ∷ (14 ∷ 16 ∷ [], pick (eqb r.name 0) (is_none s.node) (is_none s.attribute))
     ∷ (15 ∷ [], not s.held)
     ∷ [])
 
 abbrev pub taken_in : Seen → Request → Bool
-taken_in s r = among r.number (8 ∷ 13 ∷ []) && not (unfound s.attribute)
+taken_in s r = among r.number (8 ∷ 13 ∷ []) && not (is_none s.attribute)
 
 abbrev pub uncovered_in : Seen → Request → Bool
 uncovered_in s r = eqb r.number 16 && not s.covered

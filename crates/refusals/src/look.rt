@@ -15,13 +15,13 @@ use decide::{Asked, Owners, object_owner, owner_found, rights};
 use grants::{Provisions, Subject, Weights, weighed};
 use lookups::{Held, held_at, owner_in};
 use path::{Path, parent_of};
-use tables::{Attributes, Dossier, Found, Nodes, Owner, Permissions};
+use tables::{Attributes, Dossier, Nodes, Permissions};
 
 // Whose the node is, whose the node above, and how many children that has.
 #[derive(Clone, Copy)]
 pub struct Around {
-    pub node: Owner,
-    pub parent: Owner,
+    pub node: Option<u8>,
+    pub parent: Option<u8>,
     pub siblings: usize,
 }
 
@@ -50,7 +50,7 @@ fn held_for(t: Attributes, q: Placed) -> Held
         | ((n == 3) | ((n == 4) | ((n == 5) | ((n == 6) | ((n == 7) | (n == 17))))));
     if bare {
         return Held {
-            found: Found::Absent,
+            found: None,
             names: 0,
         };
     }
@@ -83,24 +83,14 @@ fn granted_to(t: Permissions, q: Placed, o: Owners) -> Option<Provisions>
 }
 
 // Only requests 14 to 16 weigh the permissions of the object, and one that nobody owns has none.
-fn weights_for(t: Permissions, q: Placed, o: Owner) -> Weights
+fn weights_for(t: Permissions, q: Placed, o: Option<u8>) -> Weights
     requires { PermissionsSound t × PathSound q.path }
     ensures { result ≡ weights_for (view_placed q) (object_owned o (permissions_in (steps q.path) q.name (view_permissions t))) }
 {
     let n = q.number;
-    if (n == 14) | ((n == 15) | (n == 16)) {
-        match o {
-            Owner::Nobody => {
-                return Weights {
-                    held: false,
-                    covered: false,
-                    clashing: false,
-                };
-            }
-            Owner::User(_) => {
-                return weighed(t, q.path, q.name, subject_of(q), q.permission);
-            }
-        }
+    let weighs = (n == 14) | ((n == 15) | (n == 16));
+    if weighs & o.is_some() {
+        return weighed(t, q.path, q.name, subject_of(q), q.permission);
     }
     Weights {
         held: false,

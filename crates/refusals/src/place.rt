@@ -1,17 +1,17 @@
 // Refusals 2 to 5: what must be there, what must not, and what the clipboard must hold.
-ghost use Rattle.std.specs.Prelude.{◌≡◌, ◌||◌, ◌+◌, ◌≤◌, T, eqb, ltb};
+ghost use Rattle.std.specs.Prelude.{◌≡◌, is_none, ◌||◌, ◌+◌, ◌≤◌, T, eqb, ltb};
 ghost use Rattle.laws.specs.Slots.{pick};
 ghost use Rattle.path.specs.Address.{valid, last};
 ghost use Rattle.path.specs.View.{steps, asked, PathSound};
 ghost use Rattle.model.specs.Refusals as refusals;
 ghost use Rattle.state.specs.View.{view_request};
 ghost use Rattle.refusals.specs.View.{view_placed, view_cache};
-ghost use Rattle.refusals.specs.Look.{SeenSound, ownerless, unfound, absent_in, taken_in};
+ghost use Rattle.refusals.specs.Look.{SeenSound, absent_in, taken_in};
 
 use crate::{Cache, Placed, Seen};
 use path::{Path, last_step, path_of, size};
 use state::Request;
-use tables::{Found, Owner};
+use tables::Found;
 
 // The request with its path taken.
 pub fn placed(r: Request) -> Placed
@@ -46,40 +46,23 @@ pub fn at_root(q: Placed) -> bool
 
 // ---- what is not there
 
-fn nobody(o: Owner) -> bool
-    ensures { result ≡ ownerless o }
-{
-    match o {
-        Owner::Nobody => true,
-        Owner::User(_) => false,
-    }
-}
-
-fn not_found(f: Found) -> bool
-    ensures { result ≡ unfound f }
-{
-    match f {
-        Found::Absent => true,
-        Found::Present(_, _) => false,
-    }
-}
-
 // No parent, or a place beyond its child count + 1.
-fn no_place(parent: Owner, children: usize, p: Path) -> bool
+fn no_place(parent: Option<u8>, children: usize, p: Path) -> bool
     requires { PathSound p × (children ≤ 64) }
-    ensures { result ≡ (ownerless parent || ltb (children + 1) (last (steps p))) }
+    ensures { result ≡ (is_none parent || ltb (children + 1) (last (steps p))) }
 {
     let place = last_step(p) as usize;
-    nobody(parent) | (children + 1 < place)
+    parent.is_none() | (children + 1 < place)
 }
 
-fn no_object(node: Owner, attribute: Found, name: u16) -> bool
-    ensures { result ≡ pick (eqb name 0) (ownerless node) (unfound attribute) }
+fn no_object(node: Option<u8>, attribute: Option<Found>, name: u16) -> bool
+    ensures { result ≡ pick (eqb name 0) (is_none node) (is_none attribute) }
 {
     if name == 0 {
-        return nobody(node);
+        node.is_none()
+    } else {
+        attribute.is_none()
     }
-    not_found(attribute)
 }
 
 // Node, attribute, parent or exact permission absent, by what the number needs; an arm each for numbers that follow one another.
@@ -92,10 +75,10 @@ pub fn absent(s: Seen, q: Placed) -> bool
     let attribute = s.attribute;
     let number = q.number;
     match number {
-        1 | 4 | 6 | 8 | 13 => nobody(node),
-        5 => nobody(node),
-        2 | 9 | 11 => not_found(attribute),
-        10 | 12 => not_found(attribute),
+        1 | 4 | 6 | 8 | 13 => node.is_none(),
+        5 => node.is_none(),
+        2 | 9 | 11 => attribute.is_none(),
+        10 | 12 => attribute.is_none(),
         3 | 7 | 17 => no_place(parent, s.siblings, q.path),
         14 | 16 => no_object(node, attribute, q.name),
         15 => !s.held,
@@ -112,7 +95,7 @@ pub fn taken(s: Seen, q: Placed) -> bool
     let attribute = s.attribute;
     let n = q.number;
     if (n == 8) | (n == 13) {
-        return !not_found(attribute);
+        return attribute.is_some();
     }
     false
 }

@@ -11,7 +11,7 @@ insert-requires c =
       attribute_at_lem a.name a.owner a.value c.requires.1,
       c.requires.0,
       c.if-t-ge256.false,
-      attribute_new (steps a.p) (record { name = a.name; owner = a.owner; value = view_value a.value }) (view_attributes a.t) c.attribute_in.ensures c.in-Absent.is,
+      attribute_new (steps a.p) (record { name = a.name; owner = a.owner; value = view_value a.value }) (view_attributes a.t) c.attribute_in.ensures c.in-None.is,
     )
 
 pub returns-else-t-ge256 : goal.returns-else-t-ge256

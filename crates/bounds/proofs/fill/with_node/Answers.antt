@@ -7,7 +7,7 @@ use Rattle.bounds.proofs.fill.with_node.Goals as goal
 
 pub insert-requires : goal.insert-requires
 insert-requires c =
-    (node_at_lem c.args.owner c.requires.1, c.requires.0, c.if-t-ge64.false, node_new (steps c.args.p) c.args.owner (view_nodes c.args.t) c.owner_in.ensures c.in-Nobody.is)
+    (node_at_lem c.args.owner c.requires.1, c.requires.0, c.if-t-ge64.false, node_new (steps c.args.p) c.args.owner (view_nodes c.args.t) c.owner_in.ensures c.in-None.is)
 
 pub returns-else-t-ge64 : goal.returns-else-t-ge64
 returns-else-t-ge64 c =

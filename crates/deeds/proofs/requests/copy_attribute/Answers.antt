@@ -12,9 +12,9 @@ attribute_in-requires c = (attributes_sound (dossier_fits c.requires.0), c.requi
 pub copy_attribute-requires : goal.copy_attribute-requires
 copy_attribute-requires c = (dossier_fits c.requires.0, c.requires.1)
 
-pub returns-in-Present : goal.returns-in-Present
-returns-in-Present c =
+pub returns-in-Some : goal.returns-in-Some
+returns-in-Some c =
     let p = steps c.args.q.path in
     let n = c.args.q.name in
     let d = view_dossier c.args.d in
-    c.copy_attribute.ensures ∙ ap (λ x. clipboard_of (clip_found p n d x)) (sym c.in-Present.is ∙ c.attribute_in.ensures) ∙ ap clipboard_of (clip_found_lem p n d)
+    c.copy_attribute.ensures ∙ ap (λ x. clipboard_of (clip_found p n d x)) (sym c.in-Some.is ∙ c.attribute_in.ensures) ∙ ap clipboard_of (clip_found_lem p n d)

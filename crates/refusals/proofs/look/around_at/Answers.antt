@@ -5,7 +5,7 @@ use Rattle.path.specs.Address.{Address, parent}
 use Rattle.path.specs.View.{steps}
 use Rattle.path.proofs.Structs.{view_path, parent_sound}
 use Rattle.model.specs.Moves.{owner_in, children_in}
-use Rattle.tables.specs.declared.Owner.{Owner}
+use Rattle.std.proofs.Common.{Option}
 use Rattle.tables.specs.View.{owner_of, view_nodes}
 use Rattle.refusals.specs.declared.look.Around.{Around}
 use Rattle.refusals.proofs.look.around_at.Goals as goal
@@ -16,7 +16,7 @@ owner_in-parent-requires c = (c.requires.0, parent_sound c.requires.1 c.parent_o
 pub children_in-siblings-requires : goal.children_in-siblings-requires
 children_in-siblings-requires c = (c.requires.0, parent_sound c.requires.1 c.parent_of-above.ensures)
 
-abbrev made : Owner → Owner → ℕ → Around
+abbrev made : Option ℕ → Option ℕ → ℕ → Around
 made node above siblings = record { node = node; parent = above; siblings = siblings }
 
 pub returns : goal.returns
