@@ -21,28 +21,16 @@ use Rattle.model.specs.Refusals.{missing, role_good, user_good, time_good, betwe
 use Rattle.model.specs.Image as images
 use Rattle.model.specs.Run.{Question, bad_question, asker, may_ask, may_ask_in, image_of}
 use Rattle.roundtrip.proofs.SaveLoad.{load_sound}
-use Rattle.tables.specs.declared.Owner.{Owner}
-use Rattle.tables.specs.declared.Owner.TheVariants.{Nobody, User}
 use Rattle.tables.specs.View.{view_dossier, DossierFits}
 use Rattle.tables.proofs.Rows.{view_dossier_lem}
 use Rattle.tables.proofs.Parts.{dossier_fits}
 use Rattle.grants.specs.View.{decision_of}
-use Rattle.decide.specs.View.{object_owner}
 use Rattle.grants.specs.declared.Provisions as grants
 use Rattle.image.specs.declared.Loaded.{Loaded}
 use Rattle.image.specs.View.{loaded_of}
 use Rattle.ask.specs.declared.Verdict.{Verdict}
 use Rattle.ask.specs.declared.Verdict.TheVariants as verdicts
 use Rattle.ask.specs.Verdict.{verdict_on, verdict_at, verdict_in}
-
--- ---- 3: whose an object is says whether it is there
-abbrev pub nobody : Owner → Bool
-nobody Nobody = true
-nobody (User u) = false
-
-pub owner_missing : (o : Option Object) → nobody (object_owner o) ≡ missing o
-owner_missing none = refl
-owner_missing (some o) = refl
 
 -- ---- 6: what is granted, by name and action
 module _ {n : ℕ} (p : Address) (d : things.Dossier) where

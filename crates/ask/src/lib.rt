@@ -19,7 +19,7 @@ use encode::put4;
 use grants::{Provisions, Subject};
 use image::load;
 use path::{Path, RawPath, is_valid, path_of};
-use tables::{Dossier, Owner};
+use tables::Dossier;
 
 // What is asked, as it came: any numbers. Name 0 is the node at the path.
 #[derive(Clone, Copy)]
@@ -55,10 +55,7 @@ fn absent(d: Dossier, p: Path, name: u16) -> bool
     requires { DossierFits d × PathSound p }
     ensures { result ≡ missing (object_at (steps p) name (view_dossier d)) }
 {
-    match owner_of(d, p, name) {
-        Owner::Nobody => true,
-        Owner::User(_) => false,
-    }
+    owner_of(d, p, name).is_none()
 }
 
 // Read of the object: the node for name 0, else the attribute of that name.
