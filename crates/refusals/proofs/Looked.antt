@@ -18,7 +18,7 @@ use Rattle.model.specs.Moves.{permissions_in, node_at, attribute_object, names_i
 use Rattle.model.specs.Refusals as refusals
 use Rattle.model.specs.Refusals.{Request, Cached, among, missing, permissions_of, with_rows}
 use Rattle.tables.specs.declared.Dossier.{Dossier}
-use Rattle.tables.specs.declared.Found.TheVariants.{Absent}
+use Rattle.std.specs.Prelude.{None}
 use Rattle.tables.specs.View.{view_attributes, view_permissions, view_dossier, DossierFits}
 use Rattle.grants.specs.View.{weights_of}
 use Rattle.lookups.specs.declared.Held.{Held}
@@ -83,7 +83,7 @@ module _ (d : Dossier) (q : Placed) where
   held_there = held_in at q.name (view_attributes d.attributes)
 
   abbrev held_if : Bool → Held
-  held_if b = pick b (record { found = Absent; names = 0 }) held_there
+  held_if b = pick b (record { found = None; names = 0 }) held_there
 
   -- an attribute that is looked at
   abbrev looks : Type 0

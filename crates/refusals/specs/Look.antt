@@ -1,5 +1,6 @@
 -- What is seen of a dossier for a request, and the tests on that alone.
-use Rattle.std.specs.Prelude.{Bool, true, false, ◌&&◌, ◌||◌, not, List, [], ◌∷◌, ℕ, ◌+◌, ◌≤◌, eqb, ltb, length, replicate}
+use Rattle.std.specs.Prelude as std
+use Rattle.std.specs.Prelude.{Some, None, Bool, true, false, ◌&&◌, ◌||◌, not, List, [], ◌∷◌, ℕ, ◌+◌, ◌≤◌, eqb, ltb, length, replicate}
 use Rattle.std.proofs.Math.Option.{Option, none}
 use Rattle.laws.specs.Slots.{pick}
 use Rattle.path.specs.Address.{Address, parent, last}
@@ -9,10 +10,7 @@ use Rattle.model.specs.Moves.{owner_in, children_in}
 use Rattle.model.specs.Refusals as refusals
 use Rattle.model.specs.Refusals.{Request, among, choose, subject, permissions_of}
 use Rattle.tables.specs.declared.Dossier.{Dossier}
-use Rattle.tables.specs.declared.Owner.{Owner}
-use Rattle.tables.specs.declared.Owner.TheVariants.{Nobody, User}
 use Rattle.tables.specs.declared.Found.{Found}
-use Rattle.tables.specs.declared.Found.TheVariants.{Absent, Present}
 use Rattle.tables.specs.View.{owner_of, view_nodes, view_attributes, view_permissions}
 use Rattle.grants.specs.declared.Weights.{Weights}
 use Rattle.grants.specs.View.{decision_of, weights_of}
@@ -37,7 +35,7 @@ abbrev pub weighing : List ℕ
 weighing = 14 ∷ 15 ∷ 16 ∷ []
 
 abbrev pub held_for : Request → List (Row Attribute) → Held
-held_for r l = pick (among r.number bare) (record { found = Absent; names = 0 }) (held_in r.path r.name l)
+held_for r l = pick (among r.number bare) (record { found = None; names = 0 }) (held_in r.path r.name l)
 
 abbrev pub weights_for : Request → Option Object → Weights
 weights_for r o = pick (among r.number weighing) (weights_of (subject r) r.permission (permissions_of o)) (record { held = false; covered = false; clashing = false })
@@ -69,13 +67,13 @@ pub record SeenSound (s : Seen) : Type 0 where
   pub permissions : s.permissions ≤ 128
 
 -- ---- the tests
-abbrev pub ownerless : Owner → Bool
-ownerless Nobody = true
-ownerless (User u) = false
+abbrev pub ownerless : std.Option ℕ → Bool
+ownerless None = true
+ownerless (Some u) = false
 
-abbrev pub unfound : Found → Bool
-unfound Absent = true
-unfound (Present u v) = false
+abbrev pub unfound : std.Option Found → Bool
+unfound None = true
+unfound (Some f) = false
 
 abbrev pub absent_in : Seen → Request → Bool
 absent_in s r =

@@ -9,7 +9,7 @@ ghost use Rattle.refusals.specs.View.{view_cache, CacheSound};
 use counts::deepest_in;
 use grants::Provisions;
 use path::Path;
-use tables::{Clipboard, Found, Grant, Owner, Value};
+use tables::{Clipboard, Found, Grant, Value};
 
 pub mod look;
 pub mod place;
@@ -34,10 +34,10 @@ pub struct Placed {
 // itself, one that covers it, one that clashes with it.
 #[derive(Clone, Copy)]
 pub struct Seen {
-    pub node: Owner,
-    pub parent: Owner,
+    pub node: Option<u8>,
+    pub parent: Option<u8>,
     pub siblings: usize,
-    pub attribute: Found,
+    pub attribute: Option<Found>,
     pub names: usize,
     pub nodes: usize,
     pub attributes: usize,

@@ -11,7 +11,7 @@ ghost use Rattle.refusals.specs.Look.{SeenSound, ownerless, unfound, absent_in, 
 use crate::{Cache, Placed, Seen};
 use path::{Path, last_step, path_of, size};
 use state::Request;
-use tables::{Found, Owner};
+use tables::Found;
 
 // The request with its path taken.
 pub fn placed(r: Request) -> Placed
@@ -46,58 +46,34 @@ pub fn at_root(q: Placed) -> bool
 
 // ---- what is not there
 
-fn nobody(o: Owner) -> bool
-    ensures { result ≡ ownerless o }
-{
-    match o {
-        Owner::Nobody => true,
-        Owner::User(_) => false,
-    }
-}
-
-fn not_found(f: Found) -> bool
-    ensures { result ≡ unfound f }
-{
-    match f {
-        Found::Absent => true,
-        Found::Present(_, _) => false,
-    }
-}
-
 // No parent, or a place beyond its child count + 1.
-fn no_place(parent: Owner, children: usize, p: Path) -> bool
+fn no_place(parent: Option<u8>, children: usize, p: Path) -> bool
     requires { PathSound p × (children ≤ 64) }
     ensures { result ≡ (ownerless parent || ltb (children + 1) (last (steps p))) }
 {
-    let place = last_step(p) as usize;
-    nobody(parent) | (children + 1 < place)
+    parent.is_none() || children + 1 < last_step(p) as usize
 }
 
-fn no_object(node: Owner, attribute: Found, name: u16) -> bool
+fn no_object(node: Option<u8>, attribute: Option<Found>, name: u16) -> bool
     ensures { result ≡ pick (eqb name 0) (ownerless node) (unfound attribute) }
 {
     if name == 0 {
-        return nobody(node);
+        node.is_none()
+    } else {
+        attribute.is_none()
     }
-    not_found(attribute)
 }
 
-// Node, attribute, parent or exact permission absent, by what the number needs; an arm each for numbers that follow one another.
+// Node, attribute, parent or exact permission absent, by what the number needs.
 pub fn absent(s: Seen, q: Placed) -> bool
     requires { SeenSound s × PathSound q.path }
     ensures { result ≡ absent_in s (view_placed q) }
 {
-    let node = s.node;
-    let parent = s.parent;
-    let attribute = s.attribute;
-    let number = q.number;
-    match number {
-        1 | 4 | 6 | 8 | 13 => nobody(node),
-        5 => nobody(node),
-        2 | 9 | 11 => not_found(attribute),
-        10 | 12 => not_found(attribute),
-        3 | 7 | 17 => no_place(parent, s.siblings, q.path),
-        14 | 16 => no_object(node, attribute, q.name),
+    match q.number {
+        1 | 4 | 5 | 6 | 8 | 13 => s.node.is_none(),
+        2 | 9 | 10 | 11 | 12 => s.attribute.is_none(),
+        3 | 7 | 17 => no_place(s.parent, s.siblings, q.path),
+        14 | 16 => no_object(s.node, s.attribute, q.name),
         15 => !s.held,
         _ => false,
     }
@@ -109,12 +85,7 @@ pub fn absent(s: Seen, q: Placed) -> bool
 pub fn taken(s: Seen, q: Placed) -> bool
     ensures { result ≡ taken_in s (view_placed q) }
 {
-    let attribute = s.attribute;
-    let n = q.number;
-    if (n == 8) | (n == 13) {
-        return !not_found(attribute);
-    }
-    false
+    matches!(q.number, 8 | 13) && s.attribute.is_some()
 }
 
 // Request 7 or 13: a clipboard of another kind, or empty. Request 17 has its image.
