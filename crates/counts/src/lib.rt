@@ -17,46 +17,32 @@ pub fn is_child(p: Path, q: Path) -> bool
     requires { PathSound p × PathSound q }
     ensures { result ≡ images.there (one_step (off (steps q) (steps p))) }
 {
-    if size(p) != size(q) + 1 {
-        return false;
-    }
-    is_under(p, q)
+    size(p) == size(q) + 1 && is_under(p, q)
 }
 
 pub fn children_in(t: Nodes, q: Path) -> usize
     requires { NodesSound t × PathSound q }
     ensures { result ≡ children_in (steps q) (view_nodes t) }
 {
-    let n = t.count;
-    let mut found: usize = 0;
-    let mut i: usize = 0;
-    while i < n {
-        let a = t.rows[i];
+    let mut found = 0;
+    for a in &t.rows[..t.count] {
         if is_child(a.path, q) {
             found += 1;
-            i += 1;
-        } else {
-            i += 1;
         }
     }
     found
 }
 
-// How many nodes, attributes and permissions the branch at q has.
+// How many nodes, attributes and permissions the branch at q has. Loops and not chains: a chain's closure must take any row, and
+// `is_under` and `is_child` take the paths of sound rows alone, which a loop's invariant knows its rows to be.
 pub fn nodes_under(t: Nodes, q: Path) -> usize
     requires { NodesSound t × PathSound q }
     ensures { result ≡ length (carried (off (steps q)) (view_nodes t)) }
 {
-    let n = t.count;
-    let mut found: usize = 0;
-    let mut i: usize = 0;
-    while i < n {
-        let a = t.rows[i];
+    let mut found = 0;
+    for a in &t.rows[..t.count] {
         if is_under(a.path, q) {
             found += 1;
-            i += 1;
-        } else {
-            i += 1;
         }
     }
     found
@@ -66,16 +52,10 @@ pub fn attributes_under(t: Attributes, q: Path) -> usize
     requires { AttributesSound t × PathSound q }
     ensures { result ≡ length (carried (off (steps q)) (view_attributes t)) }
 {
-    let n = t.count;
-    let mut found: usize = 0;
-    let mut i: usize = 0;
-    while i < n {
-        let a = t.rows[i];
+    let mut found = 0;
+    for a in &t.rows[..t.count] {
         if is_under(a.path, q) {
             found += 1;
-            i += 1;
-        } else {
-            i += 1;
         }
     }
     found
@@ -85,16 +65,10 @@ pub fn permissions_under(t: Permissions, q: Path) -> usize
     requires { PermissionsSound t × PathSound q }
     ensures { result ≡ length (carried (off (steps q)) (view_permissions t)) }
 {
-    let n = t.count;
-    let mut found: usize = 0;
-    let mut i: usize = 0;
-    while i < n {
-        let a = t.rows[i];
+    let mut found = 0;
+    for a in &t.rows[..t.count] {
         if is_under(a.path, q) {
             found += 1;
-            i += 1;
-        } else {
-            i += 1;
         }
     }
     found
@@ -105,18 +79,10 @@ pub fn depth_under(t: Nodes, q: Path) -> usize
     requires { NodesSound t × PathSound q }
     ensures { result ≡ deepest (carried (off (steps q)) (view_nodes t)) }
 {
-    let k = size(q);
-    let n = t.count;
-    let mut most: usize = 0;
-    let mut i: usize = 0;
-    while i < n {
-        let a = t.rows[i];
+    let mut most = 0;
+    for a in &t.rows[..t.count] {
         if is_under(a.path, q) {
-            let below = size(a.path) - k;
-            most = larger(most, below);
-            i += 1;
-        } else {
-            i += 1;
+            most = most.max(size(a.path) - size(q));
         }
     }
     most
@@ -127,23 +93,13 @@ pub fn deepest_in(t: Nodes) -> usize
     requires { NodesSound t }
     ensures { result ≡ deepest (view_nodes t) }
 {
-    let n = t.count;
-    if n == 0 {
-        return 0;
+    match t.rows[..t.count].last() {
+        Some(a) => size(a.path),
+        None => 0,
     }
-    let last = n - 1;
-    let a = t.rows[last];
-    size(a.path)
 }
 
-fn larger(a: usize, b: usize) -> usize
-    ensures { result ≡ max a b }
-{
-    if a < b {
-        return b;
-    }
-    a
-}
+// ---- bounds, a function for each: its clause names the model's own bound
 
 pub fn nodes_over(total: usize) -> bool
     ensures { result ≡ refusals.nodes_over total }

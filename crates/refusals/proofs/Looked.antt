@@ -18,7 +18,7 @@ use Rattle.model.specs.Moves.{permissions_in, node_at, attribute_object, names_i
 use Rattle.model.specs.Refusals as refusals
 use Rattle.model.specs.Refusals.{Request, Cached, among, missing, permissions_of, with_rows}
 use Rattle.tables.specs.declared.Dossier.{Dossier}
-use Rattle.std.specs.Prelude.{None}
+use Rattle.std.specs.Prelude.{None, is_none}
 use Rattle.tables.specs.View.{view_attributes, view_permissions, view_dossier, DossierFits}
 use Rattle.grants.specs.View.{weights_of}
 use Rattle.lookups.specs.declared.Held.{Held}
@@ -28,7 +28,7 @@ use Rattle.decide.proofs.Objects.{node_owned, attribute_owned}
 use Rattle.refusals.specs.declared.Placed.{Placed}
 use Rattle.refusals.specs.View.{view_placed}
 use Rattle.refusals.specs.Parts.{found_for, object_of}
-use Rattle.refusals.specs.Look.{bare, weighing, weights_for, seen_of, SeenSound, ownerless, unfound, absent_in, taken_in, uncovered_in, clashing_in, room_in}
+use Rattle.refusals.specs.Look.{bare, weighing, weights_for, seen_of, SeenSound, absent_in, taken_in, uncovered_in, clashing_in, room_in}
 use Rattle.refusals.proofs.Objects.{node_missing, attribute_missing, held_in_lem, children_few, names_few, nodes_size, nodes_room, attributes_size, attributes_room, permissions_size, permissions_room}
 
 -- ---- numbers of a row
@@ -89,8 +89,8 @@ module _ (d : Dossier) (q : Placed) where
   abbrev looks : Type 0
   looks = among q.number bare ≡ false
 
-  found_seen : looks → unfound (seen_of d q).attribute ≡ missing (found_for d q).attribute
-  found_seen e = ap (λ b. unfound (held_if b).found) e ∙ attribute_missing at q.name (view_dossier d)
+  found_seen : looks → is_none (seen_of d q).attribute ≡ missing (found_for d q).attribute
+  found_seen e = ap (λ b. is_none (held_if b).found) e ∙ attribute_missing at q.name (view_dossier d)
 
   -- ---- what is granted
   pub granted_seen : refusals.granted r (found_by r (record { node = (seen_of d q).node; parent = (seen_of d q).parent; attribute = found_owner (seen_of d q).attribute }) (view_permissions d.permissions))
@@ -133,7 +133,7 @@ module _ (d : Dossier) (q : Placed) where
       (row (among n (14 ∷ 16 ∷ [])) (λ e. no_object (eqb q.name 0) (not_of_row (λ k. among k bare) n (14 ∷ 16 ∷ []) refl e))
       (row (among n (15 ∷ [])) (λ e. ap not (weighed (of_row (λ k. among k weighing) n (15 ∷ []) refl e) ∙ held_in_lem r.permission (object_of d q))) refl))))
     where
-      no_object : (b : Bool) → looks → pick b (ownerless (seen_of d q).node) (unfound (seen_of d q).attribute) ≡ missing (pick b (found_for d q).node (found_for d q).attribute)
+      no_object : (b : Bool) → looks → pick b (is_none (seen_of d q).node) (is_none (seen_of d q).attribute) ≡ missing (pick b (found_for d q).node (found_for d q).attribute)
       no_object true e = node_missing at (view_dossier d)
       no_object false e = found_seen e
 

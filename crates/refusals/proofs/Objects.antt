@@ -19,24 +19,24 @@ use Rattle.tables.specs.View.{view_nodes, view_attributes, view_permissions, Dos
 use Rattle.tables.proofs.Parts.{nodes_sound, attributes_sound, permissions_sound}
 use Rattle.tables.proofs.Rows.{nodes_held, attributes_held, permissions_held}
 use Rattle.tables.proofs.Tables.{nodes_count, attributes_count, permissions_count}
-use Rattle.refusals.specs.Look.{ownerless, unfound}
+use Rattle.std.specs.Prelude.{is_none}
 
 -- ---- what is not there
 missing_map : {A : Type 0} (f : A → Object) (o : Option A) → missing o ≡ missing (map f o)
 missing_map f none = refl
 missing_map f (some a) = refl
 
-pub node_missing : (p : Address) (d : Dossier) → ownerless (owner_of (owner_in p d.nodes)) ≡ missing (node_at p d)
+pub node_missing : (p : Address) (d : Dossier) → is_none (owner_of (owner_in p d.nodes)) ≡ missing (node_at p d)
 node_missing p d = go (owner_in p d.nodes) ∙ missing_map _ (owner_in p d.nodes)
   where
-    go : (o : Option ℕ) → ownerless (owner_of o) ≡ missing o
+    go : (o : Option ℕ) → is_none (owner_of o) ≡ missing o
     go none = refl
     go (some u) = refl
 
-pub attribute_missing : (p : Address) (n : ℕ) (d : Dossier) → unfound (found_of (attribute_in p n d.attributes)) ≡ missing (attribute_object p n d)
+pub attribute_missing : (p : Address) (n : ℕ) (d : Dossier) → is_none (found_of (attribute_in p n d.attributes)) ≡ missing (attribute_object p n d)
 attribute_missing p n d = go (attribute_in p n d.attributes) ∙ missing_map _ (attribute_in p n d.attributes)
   where
-    go : (o : Option Attribute) → unfound (found_of o) ≡ missing o
+    go : (o : Option Attribute) → is_none (found_of o) ≡ missing o
     go none = refl
     go (some a) = refl
 

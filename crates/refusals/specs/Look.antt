@@ -1,6 +1,5 @@
 -- What is seen of a dossier for a request, and the tests on that alone.
-use Rattle.std.specs.Prelude as std
-use Rattle.std.specs.Prelude.{Some, None, Bool, true, false, ◌&&◌, ◌||◌, not, List, [], ◌∷◌, ℕ, ◌+◌, ◌≤◌, eqb, ltb, length, replicate}
+use Rattle.std.specs.Prelude.{None, is_none, Bool, false, ◌&&◌, ◌||◌, not, List, [], ◌∷◌, ℕ, ◌+◌, ◌≤◌, eqb, ltb, length, replicate}
 use Rattle.std.proofs.Math.Option.{Option, none}
 use Rattle.laws.specs.Slots.{pick}
 use Rattle.path.specs.Address.{Address, parent, last}
@@ -10,7 +9,6 @@ use Rattle.model.specs.Moves.{owner_in, children_in}
 use Rattle.model.specs.Refusals as refusals
 use Rattle.model.specs.Refusals.{Request, among, choose, subject, permissions_of}
 use Rattle.tables.specs.declared.Dossier.{Dossier}
-use Rattle.tables.specs.declared.Found.{Found}
 use Rattle.tables.specs.View.{owner_of, view_nodes, view_attributes, view_permissions}
 use Rattle.grants.specs.declared.Weights.{Weights}
 use Rattle.grants.specs.View.{decision_of, weights_of}
@@ -67,26 +65,18 @@ pub record SeenSound (s : Seen) : Type 0 where
   pub permissions : s.permissions ≤ 128
 
 -- ---- the tests
-abbrev pub ownerless : std.Option ℕ → Bool
-ownerless None = true
-ownerless (Some u) = false
-
-abbrev pub unfound : std.Option Found → Bool
-unfound None = true
-unfound (Some f) = false
-
 abbrev pub absent_in : Seen → Request → Bool
 absent_in s r =
     choose r.number false
-    ((1 ∷ 4 ∷ 5 ∷ 6 ∷ 8 ∷ 13 ∷ [], ownerless s.node)
-    ∷ (2 ∷ 9 ∷ 10 ∷ 11 ∷ 12 ∷ [], unfound s.attribute)
-    ∷ (3 ∷ 7 ∷ 17 ∷ [], ownerless s.parent || ltb (s.siblings + 1) (last r.path))
-    ∷ (14 ∷ 16 ∷ [], pick (eqb r.name 0) (ownerless s.node) (unfound s.attribute))
+    ((1 ∷ 4 ∷ 5 ∷ 6 ∷ 8 ∷ 13 ∷ [], is_none s.node)
+    ∷ (2 ∷ 9 ∷ 10 ∷ 11 ∷ 12 ∷ [], is_none s.attribute)
+    ∷ (3 ∷ 7 ∷ 17 ∷ [], is_none s.parent || ltb (s.siblings + 1) (last r.path))
+    ∷ (14 ∷ 16 ∷ [], pick (eqb r.name 0) (is_none s.node) (is_none s.attribute))
     ∷ (15 ∷ [], not s.held)
     ∷ [])
 
 abbrev pub taken_in : Seen → Request → Bool
-taken_in s r = among r.number (8 ∷ 13 ∷ []) && not (unfound s.attribute)
+taken_in s r = among r.number (8 ∷ 13 ∷ []) && not (is_none s.attribute)
 
 abbrev pub uncovered_in : Seen → Request → Bool
 uncovered_in s r = eqb r.number 16 && not s.covered

@@ -1,12 +1,12 @@
 // Refusals 2 to 5: what must be there, what must not, and what the clipboard must hold.
-ghost use Rattle.std.specs.Prelude.{◌≡◌, ◌||◌, ◌+◌, ◌≤◌, T, eqb, ltb};
+ghost use Rattle.std.specs.Prelude.{◌≡◌, is_none, ◌||◌, ◌+◌, ◌≤◌, T, eqb, ltb};
 ghost use Rattle.laws.specs.Slots.{pick};
 ghost use Rattle.path.specs.Address.{valid, last};
 ghost use Rattle.path.specs.View.{steps, asked, PathSound};
 ghost use Rattle.model.specs.Refusals as refusals;
 ghost use Rattle.state.specs.View.{view_request};
 ghost use Rattle.refusals.specs.View.{view_placed, view_cache};
-ghost use Rattle.refusals.specs.Look.{SeenSound, ownerless, unfound, absent_in, taken_in};
+ghost use Rattle.refusals.specs.Look.{SeenSound, absent_in, taken_in};
 
 use crate::{Cache, Placed, Seen};
 use path::{Path, last_step, path_of, size};
@@ -49,13 +49,13 @@ pub fn at_root(q: Placed) -> bool
 // No parent, or a place beyond its child count + 1.
 fn no_place(parent: Option<u8>, children: usize, p: Path) -> bool
     requires { PathSound p × (children ≤ 64) }
-    ensures { result ≡ (ownerless parent || ltb (children + 1) (last (steps p))) }
+    ensures { result ≡ (is_none parent || ltb (children + 1) (last (steps p))) }
 {
     parent.is_none() || children + 1 < last_step(p) as usize
 }
 
 fn no_object(node: Option<u8>, attribute: Option<Found>, name: u16) -> bool
-    ensures { result ≡ pick (eqb name 0) (ownerless node) (unfound attribute) }
+    ensures { result ≡ pick (eqb name 0) (is_none node) (is_none attribute) }
 {
     if name == 0 {
         node.is_none()

@@ -1,40 +1,28 @@
 -- `counts::attributes_under` meets its contract: it counts the rows at or below q. Assumes nothing.
-use borrow.Author.Rules.{rules}
-use mathlib.Core.Path.{◌≡◌, sym, ◌∙◌}
-use mathlib.Core.List.{◌∷◌}
-use Prim.Native.Nat.{◌+◌}
-use lib.ListN.{drop, get_or}
-use Rattle.laws.proofs.Fill.{held_room, held_each, held_next}
+use mathlib.Core.Path.{◌∙◌}
+use lib.ListN.{get_or, take}
+use Rattle.path.specs.Address.{off}
+use Rattle.model.specs.Moves.{carry}
+use Rattle.tables.proofs.Asked.{off_there}
+use Rattle.laws.proofs.Fill.{held_room}
 use Rattle.path.specs.View.{steps}
-use Rattle.tables.specs.View.{view_attribute, view_attributes, no_attribute, AttributeSound}
+use Rattle.tables.specs.View.{view_attribute, no_attribute}
 use Rattle.tables.proofs.Rows.{attribute_path, attributes_held}
-use Rattle.tables.proofs.Asked.{count_begin, count_hit, count_miss, off_there}
+use Rattle.counts.proofs.Walk.{row_each, hit, miss}
 use Rattle.counts.proofs.attributes_under.Goals as goal
-use Rattle.counts.proofs.attributes_under.Goals.{In-loop-i}
+use Rattle.counts.proofs.attributes_under.Goals.{then-is_under, else-is_under}
 
-pub loop-i-init : goal.loop-i-init
-loop-i-init c = (search rules, held_room _ _ _ _ _ _ (attributes_held c.args.t c.requires.0), count_begin _ _)
-
-next : (c : In-loop-i) → drop c.loop-i.i (view_attributes c.args.t)
-    ≡ view_attribute (get_or c.args.t.rows c.loop-i.i no_attribute) ∷ drop (c.loop-i.i + 1) (view_attributes c.args.t)
-next c =
-    held_next _ _ _ _ _ _ (attributes_held c.args.t c.requires.0) view_attribute c.loop-i.i no_attribute c.loop-i-test.true
-
-row : (c : In-loop-i) → AttributeSound (get_or c.args.t.rows c.loop-i.i no_attribute)
-row c =
-    held_each _ _ _ _ _ _ (attributes_held c.args.t c.requires.0) c.loop-i.i no_attribute c.loop-i-test.true
+pub shared_ref_as_front-a-items : goal.shared_ref_as_front-a-items
+shared_ref_as_front-a-items c = held_room _ _ _ _ _ _ (attributes_held c.args.t c.requires.0)
 
 pub is_under-requires : goal.is_under-requires
-is_under-requires c = (attribute_path (row (goal.at.is_under-requires c).In-loop-i), c.requires.1)
+is_under-requires c = (attribute_path (row_each (attributes_held c.args.t c.requires.0) c.loop-a.a-index no_attribute c.loop-a-test.true), c.requires.1)
 
-pub loop-i-preserved-then-is_under : goal.loop-i-preserved-then-is_under
-loop-i-preserved-then-is_under c =
-    let l = c.loop-i in
-    let x = get_or c.args.t.rows l.i no_attribute in
-    (search rules, search rules, count_hit _ _ l.i l.found l.invariant.2 (view_attribute x) (next (goal.at.loop-i-preserved-then-is_under c).In-loop-i) (sym (off_there (steps c.args.q) (view_attribute x)) ∙ sym c.is_under.ensures ∙ c.if-is_under.true))
-
-pub loop-i-preserved : goal.loop-i-preserved
-loop-i-preserved c =
-    let l = c.loop-i in
-    let x = get_or c.args.t.rows l.i no_attribute in
-    (search rules, search rules, count_miss _ _ l.i l.found l.invariant.2 (view_attribute x) (next (goal.at.loop-i-preserved c).In-loop-i) (sym (off_there (steps c.args.q) (view_attribute x)) ∙ sym c.is_under.ensures ∙ c.if-is_under.false))
+pub loop-a-preserved : goal.loop-a-preserved
+loop-a-preserved c =
+    let h = attributes_held c.args.t c.requires.0 in
+    let e = (c.is_under.ensures ∙ off_there (steps c.args.q) (view_attribute (get_or (take c.args.t.count c.args.t.rows) c.loop-a.a-index no_attribute))) in
+    elim c.if-is_under.branch [
+      | then-is_under w ↦ hit h c.loop-a.a-index no_attribute c.loop-a-test.true view_attribute (carry (off (steps c.args.q))) c.loop-a.invariant e w.if-is_under.true w.found-is
+      | else-is_under w ↦ miss h c.loop-a.a-index no_attribute c.loop-a-test.true view_attribute (carry (off (steps c.args.q))) c.loop-a.invariant e w.if-is_under.false w.found-is
+    ]

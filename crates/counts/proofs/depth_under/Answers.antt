@@ -1,61 +1,37 @@
 -- `counts::depth_under` meets its contract: the longest of the rows at or below q. Assumes nothing.
-use borrow.Author.Rules.{rules}
-use mathlib.Core.Bool.{true}
-use mathlib.Core.Path.{◌≡◌, sym, ap, ◌∙◌}
-use mathlib.Core.List.{◌∷◌}
-use Prim.Native.Nat.{◌+◌, ◌-◌, ◌≤◌, max}
-use native.Mathlib.Omega.{arith}
-use lib.ListN.{length, drop, get_or}
-use Rattle.laws.proofs.Fill.{held_room, held_each, held_next}
-use Rattle.path.specs.Address.{under}
+use mathlib.Core.Path.{sym, ap, ◌∙◌}
+use Prim.Native.Nat.{max}
+use lib.ListN.{get_or, take, drop}
+use Rattle.laws.proofs.Fill.{held_room}
+use Rattle.path.specs.Address.{off}
 use Rattle.path.specs.View.{steps}
-use Rattle.tables.specs.View.{view_node, view_nodes, no_node, NodeSound}
+use Rattle.model.specs.Moves.{carried, deepest}
+use Rattle.tables.specs.View.{view_node, view_nodes, no_node}
 use Rattle.tables.proofs.Rows.{node_path, nodes_held}
 use Rattle.tables.proofs.Asked.{below_size, deep_hit, deep_miss}
+use Rattle.counts.proofs.Walk.{row_each, row_next, ord_max_is}
 use Rattle.counts.proofs.depth_under.Goals as goal
-use Rattle.counts.proofs.depth_under.Goals.{After-size, In-loop-i, Then-is_under}
+use Rattle.counts.proofs.depth_under.Goals.{then-is_under, else-is_under}
 
-pub loop-i-init : goal.loop-i-init
-loop-i-init c = (search rules, held_room _ _ _ _ _ _ (nodes_held c.args.t c.requires.0), omega arith)
-
-next : (c : In-loop-i) → drop c.loop-i.i (view_nodes c.args.t)
-    ≡ view_node (get_or c.args.t.rows c.loop-i.i no_node) ∷ drop (c.loop-i.i + 1) (view_nodes c.args.t)
-next c =
-    held_next _ _ _ _ _ _ (nodes_held c.args.t c.requires.0) view_node c.loop-i.i no_node c.loop-i-test.true
-
-row : (c : In-loop-i) → NodeSound (get_or c.args.t.rows c.loop-i.i no_node)
-row c =
-    held_each _ _ _ _ _ _ (nodes_held c.args.t c.requires.0) c.loop-i.i no_node c.loop-i-test.true
+pub shared_ref_as_front-a-items : goal.shared_ref_as_front-a-items
+shared_ref_as_front-a-items c = held_room _ _ _ _ _ _ (nodes_held c.args.t c.requires.0)
 
 pub is_under-requires : goal.is_under-requires
-is_under-requires c = (node_path (row (goal.at.is_under-requires c).In-loop-i), c.requires.1)
-
-in_branch : (c : Then-is_under) → under (steps c.args.q) (steps (get_or c.args.t.rows c.loop-i.i no_node).path) ≡ true
-in_branch c = sym c.is_under.ensures ∙ c.if-is_under.true
+is_under-requires c = (node_path (row_each (nodes_held c.args.t c.requires.0) c.loop-a.a-index no_node c.loop-a-test.true), c.requires.1)
 
 pub size-requires : goal.size-requires
-size-requires c = node_path (row (goal.at.size-requires c).In-loop-i)
+size-requires c = node_path (row_each (nodes_held c.args.t c.requires.0) c.loop-a.a-index no_node c.loop-a-test.true)
 
-sizes : (c : After-size) → (c.size-k.result ≤ c.size.result)
-    × (c.size.result - c.size-k.result
-    ≡ length (drop (length (steps c.args.q)) (steps (get_or c.args.t.rows c.loop-i.i no_node).path)))
-sizes c =
-    below_size (steps c.args.q) _ (in_branch (goal.at-After-size c).Then-is_under) c.size.ensures.0 c.size-k.ensures.0
+pub overflow_sub-size : goal.overflow_sub-size
+overflow_sub-size c = (below_size (steps c.args.q) _ (sym c.is_under.ensures ∙ c.if-is_under.true) c.size.ensures.0 c.size-then-is_under.ensures.0).0
 
-pub overflow_sub-below : goal.overflow_sub-below
-overflow_sub-below c = (sizes (goal.at.overflow_sub-below c).After-size).0
-
-pub loop-i-preserved-then-is_under : goal.loop-i-preserved-then-is_under
-loop-i-preserved-then-is_under c =
-    let l = c.loop-i in
-    let x = get_or c.args.t.rows l.i no_node in (
-      search rules,
-      search rules,
-      deep_hit (steps c.args.q) l.most (view_node x) _ l.invariant.2 (next (goal.at.loop-i-preserved-then-is_under c).In-loop-i) (in_branch (goal.at.loop-i-preserved-then-is_under c).Then-is_under) c.larger-most.result (c.larger-most.ensures ∙ ap (max l.most) (sizes (goal.at.loop-i-preserved-then-is_under c).After-size).1),
-    )
-
-pub loop-i-preserved : goal.loop-i-preserved
-loop-i-preserved c =
-    let l = c.loop-i in
-    let x = get_or c.args.t.rows l.i no_node in
-    (search rules, search rules, deep_miss (steps c.args.q) l.most (view_node x) _ l.invariant.2 (next (goal.at.loop-i-preserved c).In-loop-i) (sym c.is_under.ensures ∙ c.if-is_under.false))
+pub loop-a-preserved : goal.loop-a-preserved
+loop-a-preserved c =
+    let l = c.loop-a in
+    let q = steps c.args.q in
+    let x = view_node (get_or (take c.args.t.count c.args.t.rows) l.a-index no_node) in
+    let next = row_next (nodes_held c.args.t c.requires.0) l.a-index no_node c.loop-a-test.true view_node in
+    elim c.if-is_under.branch [
+      | then-is_under w ↦ deep_hit q l.most x _ l.invariant next (sym c.is_under.ensures ∙ w.if-is_under.true) c.if-is_under.most (w.most-is ∙ w.max-most.ensures ∙ ord_max_is l.most _ ∙ ap (max l.most) (below_size q _ (sym c.is_under.ensures ∙ w.if-is_under.true) w.size.ensures.0 w.size-then-is_under.ensures.0).1)
+      | else-is_under w ↦ let k = w.most-is in deep_miss q c.if-is_under.most x _ (ap (λ m. max m (deepest (carried (off q) (drop l.a-index (view_nodes c.args.t))))) k ∙ l.invariant) next (sym c.is_under.ensures ∙ w.if-is_under.false)
+    ]

@@ -1,5 +1,4 @@
 -- `counts::nodes_under` meets its contract: it counts the rows at or below q. Assumes nothing.
-use Prim.Native.Nat.{◌-◌, ◌≤◌}
 use Rattle.path.specs.Address.{off}
 use Rattle.model.specs.Moves.{carry}
 use Rattle.path.specs.View.{steps}
@@ -7,8 +6,5 @@ use Rattle.tables.specs.View.{view_nodes}
 use Rattle.tables.proofs.Asked.{Counts}
 use Rattle.counts.proofs.nodes_under.Given as goal
 
-abbrev pub invariant-loop-i : goal.invariant-loop-i
-invariant-loop-i l = (l.i ≤ l.n) × (l.n ≤ 64) × Counts (carry (off (steps (l.q)))) (view_nodes l.t) l.i l.found
-
-abbrev pub decreases-loop-i : goal.decreases-loop-i
-decreases-loop-i l = l.n - l.i
+abbrev pub invariant-loop-a : goal.invariant-loop-a
+invariant-loop-a l = Counts (carry (off (steps l.q))) (view_nodes l.fn.t) l.a-index l.found

@@ -1,10 +1,10 @@
 -- `refusals::look::looked` meets its contract: each part by the function that finds it. Assumes nothing.
 use mathlib.Core.Path.{ap, ◌∙◌}
+use Prim.Native.Nat.{ℕ}
 use Rattle.path.specs.View.{steps}
 use Rattle.model.specs.Moves.{permissions_in}
 use Rattle.model.specs.Refusals as refusals
-use Rattle.std.specs.Prelude as std
-use Rattle.std.specs.Prelude.{ℕ}
+use Rattle.std.proofs.Common.{Option}
 use Rattle.tables.specs.View.{view_permissions}
 use Rattle.grants.specs.View.{decision_of}
 use Rattle.lookups.specs.declared.Held.{Held}
@@ -19,7 +19,7 @@ use Rattle.laws.specs.Slots.{pick}
 use lib.Dec.{eqb}
 use Rattle.refusals.proofs.look.looked.Goals as goal
 
-abbrev made : std.Option ℕ → std.Option ℕ → std.Option ℕ → Owners
+abbrev made : Option ℕ → Option ℕ → Option ℕ → Owners
 made node above attribute = record { node = node; parent = above; attribute = attribute }
 
 pub returns : goal.returns
@@ -35,7 +35,7 @@ returns c =
     let owner = c.owner_found.ensures ∙ ap (λ (x : Held). found_owner x.found) held in
     let may = c.granted_to-may.ensures ∙ (λ i. decision_of (refusals.granted r (found_by r (made (node i) (above i) (owner i)) l))) ∙ ap decision_of (granted_seen d q) in
     let object = c.object_owner-object.ensures ∙ (λ i. pick (eqb q.name 0) (node i) (owner i)) in
-    let weights = c.weights_for-w.ensures ∙ ap (λ (o : std.Option ℕ). weights_for r (object_owned o (permissions_in (steps q.path) q.name l))) object ∙ weights_seen d q in
+    let weights = c.weights_for-w.ensures ∙ ap (λ (o : Option ℕ). weights_for r (object_owned o (permissions_in (steps q.path) q.name l))) object ∙ weights_seen d q in
     λ i. record {
       node = node i;
       parent = above i;
