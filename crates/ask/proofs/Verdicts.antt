@@ -25,7 +25,6 @@ use Rattle.tables.specs.View.{view_dossier, DossierFits}
 use Rattle.tables.proofs.Rows.{view_dossier_lem}
 use Rattle.tables.proofs.Parts.{dossier_fits}
 use Rattle.grants.specs.View.{decision_of}
-use Rattle.decide.specs.View.{object_owner}
 use Rattle.grants.specs.declared.Provisions as grants
 use Rattle.std.proofs.Common.{Result, Ok, Err}
 use Rattle.tables.specs.declared.Dossier.{Dossier}
@@ -34,11 +33,6 @@ use Rattle.image.specs.View.{loaded_of}
 use Rattle.ask.specs.declared.Verdict.{Verdict}
 use Rattle.ask.specs.declared.Verdict.TheVariants as verdicts
 use Rattle.ask.specs.Verdict.{verdict_on, verdict_at, verdict_in}
-
--- ---- 3: whose an object is says whether it is there
-pub owner_missing : (o : Option Object) → is_none (object_owner o) ≡ missing o
-owner_missing none = refl
-owner_missing (some o) = refl
 
 -- ---- 6: what is granted, by name and action
 module _ {n : ℕ} (p : Address) (d : things.Dossier) where

@@ -134,7 +134,7 @@ pub fn walked(t: Permissions, p: Path, name: u16, s: Subject) -> Walk
 }
 
 // Of the object's permissions against g: whether one is g itself, one covers it for the subject, one clashes with it.
-#[derive(Clone, Copy)]
+#[derive(Clone, Copy, Default)]
 pub struct Weights {
     pub held: bool,
     pub covered: bool,

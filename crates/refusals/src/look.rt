@@ -30,13 +30,10 @@ fn around_at(t: Nodes, p: Path) -> Around
     ensures { result ≡ around_in (steps p) (view_nodes t) }
 {
     let above = parent_of(p);
-    let node = owner_in(t, p);
-    let parent = owner_in(t, above);
-    let siblings = children_in(t, above);
     Around {
-        node: node,
-        parent: parent,
-        siblings: siblings,
+        node: owner_in(t, p),
+        parent: owner_in(t, above),
+        siblings: children_in(t, above),
     }
 }
 
@@ -45,16 +42,13 @@ fn held_for(t: Attributes, q: Placed) -> Held
     requires { AttributesSound t × PathSound q.path }
     ensures { result ≡ held_for (view_placed q) (view_attributes t) }
 {
-    let n = q.number;
-    let bare = (n == 1)
-        | ((n == 3) | ((n == 4) | ((n == 5) | ((n == 6) | ((n == 7) | (n == 17))))));
-    if bare {
-        return Held {
+    match q.number {
+        1 | 3 | 4 | 5 | 6 | 7 | 17 => Held {
             found: None,
             names: 0,
-        };
+        },
+        _ => held_at(t, q.path, q.name),
     }
-    held_at(t, q.path, q.name)
 }
 
 fn subject_of(q: Placed) -> Subject
@@ -87,15 +81,9 @@ fn weights_for(t: Permissions, q: Placed, o: Option<u8>) -> Weights
     requires { PermissionsSound t × PathSound q.path }
     ensures { result ≡ weights_for (view_placed q) (object_owned o (permissions_in (steps q.path) q.name (view_permissions t))) }
 {
-    let n = q.number;
-    let weighs = (n == 14) | ((n == 15) | (n == 16));
-    if weighs & o.is_some() {
-        return weighed(t, q.path, q.name, subject_of(q), q.permission);
-    }
-    Weights {
-        held: false,
-        covered: false,
-        clashing: false,
+    match q.number {
+        14 | 15 | 16 if o.is_some() => weighed(t, q.path, q.name, subject_of(q), q.permission),
+        _ => Weights::default(),
     }
 }
 

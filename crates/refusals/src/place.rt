@@ -51,8 +51,7 @@ fn no_place(parent: Option<u8>, children: usize, p: Path) -> bool
     requires { PathSound p × (children ≤ 64) }
     ensures { result ≡ (is_none parent || ltb (children + 1) (last (steps p))) }
 {
-    let place = last_step(p) as usize;
-    parent.is_none() | (children + 1 < place)
+    parent.is_none() || children + 1 < last_step(p) as usize
 }
 
 fn no_object(node: Option<u8>, attribute: Option<Found>, name: u16) -> bool
@@ -65,22 +64,16 @@ fn no_object(node: Option<u8>, attribute: Option<Found>, name: u16) -> bool
     }
 }
 
-// Node, attribute, parent or exact permission absent, by what the number needs; an arm each for numbers that follow one another.
+// Node, attribute, parent or exact permission absent, by what the number needs.
 pub fn absent(s: Seen, q: Placed) -> bool
     requires { SeenSound s × PathSound q.path }
     ensures { result ≡ absent_in s (view_placed q) }
 {
-    let node = s.node;
-    let parent = s.parent;
-    let attribute = s.attribute;
-    let number = q.number;
-    match number {
-        1 | 4 | 6 | 8 | 13 => node.is_none(),
-        5 => node.is_none(),
-        2 | 9 | 11 => attribute.is_none(),
-        10 | 12 => attribute.is_none(),
-        3 | 7 | 17 => no_place(parent, s.siblings, q.path),
-        14 | 16 => no_object(node, attribute, q.name),
+    match q.number {
+        1 | 4 | 5 | 6 | 8 | 13 => s.node.is_none(),
+        2 | 9 | 10 | 11 | 12 => s.attribute.is_none(),
+        3 | 7 | 17 => no_place(s.parent, s.siblings, q.path),
+        14 | 16 => no_object(s.node, s.attribute, q.name),
         15 => !s.held,
         _ => false,
     }
@@ -92,12 +85,7 @@ pub fn absent(s: Seen, q: Placed) -> bool
 pub fn taken(s: Seen, q: Placed) -> bool
     ensures { result ≡ taken_in s (view_placed q) }
 {
-    let attribute = s.attribute;
-    let n = q.number;
-    if (n == 8) | (n == 13) {
-        return attribute.is_some();
-    }
-    false
+    matches!(q.number, 8 | 13) && s.attribute.is_some()
 }
 
 // Request 7 or 13: a clipboard of another kind, or empty. Request 17 has its image.

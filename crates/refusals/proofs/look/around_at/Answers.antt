@@ -5,24 +5,24 @@ use Rattle.path.specs.Address.{Address, parent}
 use Rattle.path.specs.View.{steps}
 use Rattle.path.proofs.Structs.{view_path, parent_sound}
 use Rattle.model.specs.Moves.{owner_in, children_in}
-use Rattle.std.proofs.Common.{Option}
+use Rattle.std.specs.Prelude as std
 use Rattle.tables.specs.View.{owner_of, view_nodes}
 use Rattle.refusals.specs.declared.look.Around.{Around}
 use Rattle.refusals.proofs.look.around_at.Goals as goal
 
-pub owner_in-parent-requires : goal.owner_in-parent-requires
-owner_in-parent-requires c = (c.requires.0, parent_sound c.requires.1 c.parent_of-above.ensures)
+pub owner_in-requires-2 : goal.owner_in-requires-2
+owner_in-requires-2 c = (c.requires.0, parent_sound c.requires.1 c.parent_of-above.ensures)
 
-pub children_in-siblings-requires : goal.children_in-siblings-requires
-children_in-siblings-requires c = (c.requires.0, parent_sound c.requires.1 c.parent_of-above.ensures)
+pub children_in-requires : goal.children_in-requires
+children_in-requires c = (c.requires.0, parent_sound c.requires.1 c.parent_of-above.ensures)
 
-abbrev made : Option ℕ → Option ℕ → ℕ → Around
+abbrev made : std.Option ℕ → std.Option ℕ → ℕ → Around
 made node above siblings = record { node = node; parent = above; siblings = siblings }
 
 pub returns : goal.returns
 returns c =
     let a = c.args in
     let up = ap steps c.parent_of-above.ensures ∙ view_path (parent (steps a.p)) in
-    let owner = c.owner_in-parent.ensures ∙ ap (λ (z : Address). owner_of (owner_in z (view_nodes a.t))) up in
-    let children = c.children_in-siblings.ensures ∙ ap (λ (z : Address). children_in z (view_nodes a.t)) up in
-    λ i. made (c.owner_in-node.ensures i) (owner i) (children i)
+    let owner = c.owner_in-2.ensures ∙ ap (λ (z : Address). owner_of (owner_in z (view_nodes a.t))) up in
+    let children = c.children_in.ensures ∙ ap (λ (z : Address). children_in z (view_nodes a.t)) up in
+    λ i. made (c.owner_in.ensures i) (owner i) (children i)
