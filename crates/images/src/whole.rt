@@ -28,11 +28,10 @@ struct Tally {
 }
 
 fn is_right(image: &[u8]) -> bool {
-    let r = saved::load(image);
-    if !r.good {
-        return false;
+    match saved::load(image) {
+        Ok(d) => saved::saves_as(d, image),
+        Err(_) => false,
     }
-    saved::saves_as(r.dossier, image)
 }
 
 fn one_if(wrong: bool) -> usize
@@ -114,11 +113,14 @@ fn try_bad(file: &mut impl Read) -> Blamed
     let size = files::number(file);
     let mut space = files::space();
     let n = files::bytes(file, size.n, &mut space);
-    let r = saved::load(&space[..n]);
-    let right = !r.good & ((r.record == head.n) & (n == size.n));
+    let (good, record) = match saved::load(&space[..n]) {
+        Ok(_) => (true, 0),
+        Err(bad) => (false, bad.number),
+    };
+    let right = !good & ((record == head.n) & (n == size.n));
     Blamed {
         there: head.there,
-        record: r.record,
+        record,
         wrong: one_if(!right),
     }
 }
