@@ -11,19 +11,18 @@ use std::rt::Files;
 
 // good where it loads and saves as it was, else the record that is blamed.
 fn answer(rt: &impl Print, image: &[u8]) {
-    let r = saved::load(image);
-    if !r.good {
-        text(rt, b"record ");
-        number(rt, r.record);
-        return;
+    match saved::load(image) {
+        Ok(d) => either(
+            rt,
+            saved::saves_as(d, image),
+            b"good",
+            b"saved as other bytes",
+        ),
+        Err(bad) => {
+            text(rt, b"record ");
+            number(rt, bad.number);
+        }
     }
-    let d = r.dossier;
-    either(
-        rt,
-        saved::saves_as(d, image),
-        b"good",
-        b"saved as other bytes",
-    );
 }
 
 // ---- lengths
@@ -78,15 +77,12 @@ fn room(rt: &impl Print, image: &[u8]) {
     if n == 0 {
         return;
     }
-    let r = saved::load(image);
-    let d = r.dossier;
+    let refused = match saved::load(image) {
+        Ok(d) => saved::is_refused(d, n - 1),
+        Err(_) => false,
+    };
     let _ = print!(rt; "save of {n} bytes into {}", n - 1);
-    either(
-        rt,
-        saved::is_refused(d, n - 1),
-        b": refused, buffer kept\n",
-        b": wrong\n",
-    );
+    either(rt, refused, b": refused, buffer kept\n", b": wrong\n");
 }
 
 // ---- one byte

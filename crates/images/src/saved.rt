@@ -1,9 +1,8 @@
 // An image that was loaded, saved again.
-ghost use Rattle.std.specs.Prelude.{◌≡◌, length};
+ghost use Rattle.std.specs.Prelude.{◌≡◌, length, IfOk};
 ghost use Rattle.tables.specs.View.{DossierFits};
 
-use image::Loaded;
-use save::Written;
+use image::BadRecord;
 use tables::Dossier;
 
 const PATTERN: u8 = 0xa5;
@@ -16,8 +15,8 @@ fn buffer() -> [u8; 20000]
 }
 
 // Loads, and says of the dossier what a save asks.
-pub fn load(bytes: &[u8]) -> Loaded
-    ensures { DossierFits result.dossier }
+pub fn load(bytes: &[u8]) -> Result<Dossier, BadRecord>
+    ensures { IfOk result (λ d. DossierFits d) }
 {
     image::load(bytes)
 }
@@ -32,16 +31,8 @@ pub fn saves_as(d: Dossier, image: &[u8]) -> bool
     requires { DossierFits d }
 {
     let mut out = buffer();
-    let n = count(save::save(d, &mut out));
+    let n = save::save(d, &mut out).unwrap_or(0);
     (n == image.len()) & (out.starts_with(image) & is_kept(&out, n))
-}
-
-// The bytes that were written, or none.
-fn count(w: Written) -> usize {
-    match w {
-        Written::Short => 0,
-        Written::Bytes(n) => n,
-    }
 }
 
 // Whether there is no room for a dossier in that many bytes of the buffer.
@@ -51,7 +42,7 @@ fn is_short_of(d: Dossier, room: usize, out: &mut [u8]) -> bool
     if out.len() < room {
         return false;
     }
-    is_short(save::save(d, &mut out[..room]))
+    save::save(d, &mut out[..room]).is_none()
 }
 
 // Whether a save into so many bytes is refused, and leaves the buffer as it was.
@@ -61,11 +52,4 @@ pub fn is_refused(d: Dossier, room: usize) -> bool
     let mut out = buffer();
     let short = is_short_of(d, room, &mut out);
     short & is_kept(&out, 0)
-}
-
-fn is_short(w: Written) -> bool {
-    match w {
-        Written::Short => true,
-        Written::Bytes(_) => false,
-    }
 }

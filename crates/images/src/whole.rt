@@ -26,11 +26,10 @@ struct Tally {
 }
 
 fn is_right(image: &[u8]) -> bool {
-    let r = saved::load(image);
-    if !r.good {
-        return false;
+    match saved::load(image) {
+        Ok(d) => saved::saves_as(d, image),
+        Err(_) => false,
     }
-    saved::saves_as(r.dossier, image)
 }
 
 fn one_if(wrong: bool) -> usize
@@ -101,10 +100,13 @@ fn try_bad(file: &mut impl Read) -> Option<Blamed>
     let size = files::number(file)?;
     let mut space = files::space();
     let n = files::bytes(file, size, &mut space);
-    let r = saved::load(&space[..n]);
-    let right = !r.good & ((r.record == record) & (n == size));
+    let (good, blamed) = match saved::load(&space[..n]) {
+        Ok(_) => (true, 0),
+        Err(bad) => (false, bad.number),
+    };
+    let right = !good & ((blamed == record) & (n == size));
     Some(Blamed {
-        record: r.record,
+        record: blamed,
         wrong: one_if(!right),
     })
 }
