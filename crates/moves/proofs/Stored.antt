@@ -2,13 +2,10 @@
 use mathlib.Core.Path.{◌≡◌, refl, sym, ap, ◌∙◌}
 use mathlib.Core.Bool.{true, false}
 use mathlib.Core.Option.{Option, none, some}
-use mathlib.Core.List.{List, ◌∷◌}
 use Rattle.path.specs.Address.{Address}
 use Rattle.path.specs.View.{path_of, moved_of}
 use Rattle.path.specs.declared.Moved.{Moved}
 use Rattle.path.proofs.Structs.{no}
-use Rattle.model.specs.Things.{Row}
-use Rattle.model.specs.Moves.{carried}
 
 -- ---- a path that moved, or went
 pub moved_there : {m : Moved} (o : Option Address) → m ≡ moved_of o → m.there ≡ true → (p : Address) × (o ≡ some p) × (m.path ≡ path_of p)
@@ -18,11 +15,3 @@ moved_there (some p) e t = (p, refl, ap (λ (x : Moved). x.path) e)
 pub moved_gone : {m : Moved} (o : Option Address) → m ≡ moved_of o → m.there ≡ false → o ≡ none
 moved_gone none e t = refl
 moved_gone (some p) e t = no (sym (ap (λ (x : Moved). x.there) e) ∙ t)
-
--- ---- what a pass has yet to store, by one row
-module _ {P : Type 0} (f : Address → Option Address) (x : Row P) {l l' : List (Row P)} (e : l ≡ x ∷ l') where
-  pub row_moves : {p : Address} → f x.0 ≡ some p → carried f l ≡ (p, x.1) ∷ carried f l'
-  row_moves m = ap (carried f) e ∙ rw m
-
-  pub row_goes : f x.0 ≡ none → carried f l ≡ carried f l'
-  row_goes m = ap (carried f) e ∙ rw m
