@@ -8,14 +8,11 @@ use Prim.Native.Nat.{ℕ, zero, suc, ◌+◌, ◌≤◌, ◌<◌}
 use native.Mathlib.Omega.{arith}
 use lib.Dec.{T, eqb, leb, ltb}
 use lib.ListN.{length, get_or, length-append}
-use borrow.Author.Tests.{lt-ltb, le-ltb}
 use Rattle.laws.specs.Slots.{pick}
 use Rattle.laws.specs.Sorted.{◌∈◌, push}
 use Rattle.path.specs.Address.{Address, valid, before, under, higher, up, on, in_depth}
-use Rattle.path.specs.View.{steps, path_of, moved_of, key_of, PathSound}
-use Rattle.path.specs.declared.Path.{Path}
-use Rattle.std.specs.Prelude.{Option, Some}
-use Rattle.path.proofs.Structs.{no, path_valid, valid_short, valid_small, in_depth_fits}
+use Rattle.path.specs.View.{path_of, key_of}
+use Rattle.path.proofs.Structs.{no, valid_short, valid_small, in_depth_fits}
 use Rattle.path.proofs.Number.{Digits, key_order}
 use Rattle.model.specs.Things.{Row}
 use Rattle.model.specs.Moves.{carried}
@@ -73,24 +70,6 @@ digits_on q p u v h =
 pub keys_compare : (q a b : Address) → T (valid q) → T (valid a) → T (valid b) → length q + length a ≤ 6
     → ltb (key_of (path_of (on q a))) (key_of (path_of (up q b))) ≡ before (on q a) (up q b)
 keys_compare q a b u v w s = key_order (on q a) (up q b) refl refl (digits_on q a u v s) (digits_up q b w)
-
--- ---- of a path a put below q and a path b moved up from q, the one with the lesser number comes first
-module _ {q a b p u : Path} {x y : ℕ} (sq : PathSound q) (sa : PathSound a) (sb : PathSound b) (s : length (steps q) + length (steps a) ≤ 6)
-    (e : p ≡ path_of (on (steps q) (steps a))) (f : u ≡ path_of (up (steps q) (steps b))) (k : x ≡ key_of p) (n : y ≡ key_of u) where
-  compared : ltb x y ≡ before (on (steps q) (steps a)) (up (steps q) (steps b))
-  compared =
-      ap₂ ltb k n
-      ∙ key_order (on (steps q) (steps a)) (up (steps q) (steps b)) e f (digits_on (steps q) (steps a) (path_valid sq) (path_valid sa) s) (digits_up (steps q) (steps b) (path_valid sb))
-
-  pub on_first_lem : x < y → before (on (steps q) (steps a)) (up (steps q) (steps b)) ≡ true
-  on_first_lem h = sym compared ∙ lt-ltb x y h
-
-  pub up_first : y ≤ x → before (on (steps q) (steps a)) (up (steps q) (steps b)) ≡ false
-  up_first h = sym compared ∙ le-ltb x y h
-
--- ---- a path put below q, where that is not too deep
-pub moved_on : {m : Option Path} (q p : Address) → m ≡ moved_of (in_depth (on q p)) → length q + length p ≤ 6 → m ≡ Some (path_of (on q p))
-moved_on q p e h = e ∙ ap moved_of (in_depth_fits (on q p) (subst (λ n. n ≤ 6) (sym (length-append q p)) h))
 
 -- rows put below q, where none is too deep
 pub all_short : {P : Type 0} (q : Address) (l : List (Row P)) → ((r : Row P) → r ∈ l → length q + length r.0 ≤ 6) → carried (λ p. in_depth (on q p)) l ≡ below q l

@@ -1,4 +1,2 @@
 pub mod Keys
-pub mod Stored
 pub mod Merged
-pub mod Kept

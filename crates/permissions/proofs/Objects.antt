@@ -1,5 +1,5 @@
 -- Permissions for one object: what the next row tells of those to be stored, and those under another name merged in. Assumes nothing.
-use mathlib.Core.Path.{◌≡◌, refl, sym, ap, subst, ◌∙◌}
+use mathlib.Core.Path.{◌≡◌, refl, sym, ap, subst}
 use mathlib.Core.Logic.{⊎_elim}
 use mathlib.Core.Bool.{Bool, true, false, ◌&&◌}
 use mathlib.Core.List.Memᴰ
@@ -15,7 +15,7 @@ use Rattle.path.specs.Address.{Address, before, same}
 use Rattle.path.proofs.Laws.{address_order, same_refl}
 use Rattle.model.specs.Things.{Permission, Row, lt_permission, before_permission}
 use Rattle.model.specs.Moves.{permissions_in, grant_row}
-use Rattle.roundtrip.proofs.Orders.{lt_named, permissions_order}
+use Rattle.roundtrip.proofs.Orders.{lt_named}
 use Rattle.roundtrip.proofs.Prefix.{map_sorted_on}
 use Rattle.moves.specs.Room.{OneObject, NoObject, renamed, held_grant}
 

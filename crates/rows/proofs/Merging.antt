@@ -1,17 +1,16 @@
 -- Rows that are put among those of a table, from the end: what the last rows of the two tell of the list to be stored. Assumes nothing.
 use mathlib.Core.Path.{◌≡◌, refl, sym, ap, ap₂, subst, subst₂, ◌∙◌}
 use mathlib.Core.Bool.{Bool, true, false}
-use mathlib.Core.List.Memᴰ
 use mathlib.Core.List.{List, [], ◌∷◌, ◌++◌, map}
 use Prim.Native.Nat.{ℕ, zero, suc, ◌+◌, ◌-◌, ◌≤◌, ◌<◌}
 use native.Mathlib.Omega.{arith}
 use lib.ListN.{length, take, set, get_or, length-map}
 use lib.Seq.{take-suc, take_all}
 use Rattle.std.proofs.lemmas.List.{get_or_default}
-use Rattle.laws.specs.Slots.{All, Is}
+use Rattle.laws.specs.Slots.{All}
 use Rattle.laws.specs.Sorted.{◌∈◌, StrictOrder, merge, interleave}
 use Rattle.laws.proofs.Sorted.{interleave_is_merge}
-use Rattle.laws.proofs.Fill.{Held, held_full, is_same}
+use Rattle.laws.proofs.Fill.{Held, is_same}
 use Rattle.laws.proofs.Inplace.{Falls, falls, fall, fall_each, fall_last, fallen, held_length, held_blank, held_first, map_take}
 use Rattle.laws.proofs.Last.{Ends, ends_in, in_take, ends_map, sorted_take, inter_length, ends_only_first, ends_first, ends_second}
 use Rattle.model.specs.Things.{Row}

@@ -9,8 +9,8 @@ use native.Mathlib.Omega.{arith}
 use lib.Dec.{T, ltb}
 use lib.ListN.{length, take, length-map}
 use lib.Seq.{take_at}
-use Rattle.laws.specs.Slots.{slots, All, Is}
-use Rattle.laws.specs.Sorted.{◌∈◌, StrictOrder, Sorted, nil, cons, Disjoint, move}
+use Rattle.laws.specs.Slots.{All}
+use Rattle.laws.specs.Sorted.{◌∈◌, StrictOrder, Sorted, nil, cons, Disjoint}
 use Rattle.laws.proofs.Sorted.{move_back}
 use Rattle.laws.proofs.Fill.{seen, is_fits, is_same}
 use Rattle.path.specs.Address.{Address, valid, before, up, on}
@@ -21,7 +21,7 @@ use Rattle.model.specs.Moves.{carry}
 use Rattle.moves.specs.Moved.{raised, below}
 use Rattle.moves.specs.Room.{Shallow}
 use Rattle.moves.proofs.Keys.{apart, keys_compare}
-use Rattle.moves.proofs.Merged.{carried_sorted, carried_path, moved_length, row_lt}
+use Rattle.moves.proofs.Merged.{carried_sorted, carried_path, row_lt}
 use Rattle.tables.specs.declared.Table.{Table}
 use Rattle.tables.specs.View.{AtPath, Fits}
 use Rattle.rows.specs.Tables as tables

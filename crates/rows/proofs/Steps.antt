@@ -1,15 +1,14 @@
 -- What a function of rows gives, as the model has it. Assumes nothing.
 use mathlib.Core.Path.{◌≡◌, refl, sym, ap, subst, ◌∙◌}
-use mathlib.Core.Bool.{Bool, true, false}
+use mathlib.Core.Bool.{Bool, true, false, not}
 use mathlib.Core.Option as math
 use mathlib.Core.List.{List, ◌∷◌}
 use Prim.Native.Nat.{ℕ, ◌+◌, ◌≤◌, ◌<◌}
 use native.Mathlib.Omega.{arith}
 use lib.ListN.{length, take, drop, set, get_or}
 use lib.Seq.{length-take-le, get_or-take}
-use Rattle.std.specs.Prelude.{Option, Some, None}
+use Rattle.std.specs.Prelude.{Some, None}
 use Rattle.laws.specs.Sorted.{move}
-use Rattle.laws.specs.Slots.{Is}
 use Rattle.laws.proofs.Fill.{Held, held_room, held_full, held_each, held_next, Fills, turn, instead, done, row_end, is_seen}
 use Rattle.path.specs.View.{steps, path_of, PathSound}
 use Rattle.path.specs.declared.Path.{Path}
@@ -94,7 +93,10 @@ module _ {S P : Type 0} {of : Row P → S} (view : S → Row P) (back : (r : Row
   pub path_steps : steps p ≡ (view s).0
   path_steps = ap steps (e h.model h.same) ∙ view_path h.model.0 ∙ ap (λ (r : Row P). r.0) (sym (is_seen of view back AtPath s h))
 
--- ---- a row kept or not
+-- ---- a row kept or not, where a test says no or yes
+pub so_not : {r b t : Bool} → r ≡ t → r ≡ b → not t ≡ not b
+so_not e f = ap not (sym e ∙ f)
+
 module _ {S P : Type 0} (of : Row P → S) (test : Row P → Bool) where
   pub kept : {x : Row P} {s : S} → s ≡ of x → test x ≡ true → Some s ≡ given of (keep test x)
   kept e t = rw t (ap Some e)

@@ -1,7 +1,6 @@
 -- The three kinds of rows keep what a row promises. Assumes nothing.
 use mathlib.Core.Path.{refl}
-use mathlib.Core.Bool.{◌&&◌}
-use lib.Dec.{T, ltb, eqb, eqb_refl}
+use lib.Dec.{ltb, eqb, eqb_refl}
 use mir.Facts.{yes_and}
 use Rattle.laws.proofs.Order.{nat_order}
 use Rattle.path.specs.Address.{same}

@@ -4,9 +4,7 @@ use Rattle.std.proofs.Math.Option as math
 use Rattle.laws.specs.Slots.{slots, Is}
 use Rattle.laws.specs.Sorted.{◌∈◌, StrictOrder, Sorted, Disjoint}
 use Rattle.laws.specs.Order.{lt_pair}
-use Rattle.path.specs.Address.{Address, before}
-use Rattle.path.specs.View.{path_of}
-use Rattle.path.specs.declared.Path.{Path}
+use Rattle.path.specs.Address.{before}
 use Rattle.model.specs.Things.{Row, Permission, lt_permission}
 use Rattle.tables.specs.declared.Table.{Table}
 use Rattle.tables.specs.View.{AtPath, Fits}

@@ -1,5 +1,4 @@
 -- `attributes::changed` meets its contract: the value changes where the row is found; a node has one attribute for a name. Assumes nothing.
-use borrow.Author.Rules.{rules}
 use mathlib.Core.Path.{◌≡◌, refl, ap, sym, subst, ◌∙◌}
 use mathlib.Core.Bool.{true, false}
 use mathlib.Core.List.{◌∷◌}

@@ -13,7 +13,7 @@ use Rattle.path.specs.View.{steps}
 use Rattle.path.proofs.Structs.{path_valid}
 use Rattle.model.specs.Things.{before_permission}
 use Rattle.model.specs.Moves.{grant_row}
-use Rattle.tables.specs.View.{AtPath, permission_of, view_permissions, permissions_of, blank_permission, Fits}
+use Rattle.tables.specs.View.{AtPath, view_permissions, permissions_of, blank_permission, Fits}
 use Rattle.tables.proofs.Rows.{view_permission_lem, view_permissions_lem}
 use Rattle.tables.proofs.Tables.{permissions_same, permissions_count}
 use Rattle.moves.specs.Room.{grant_in, renamed}

@@ -1,6 +1,6 @@
 -- `rows::merged` meets its contract: two lists in order, put together from their ends: at each turn the row that comes last. Assumes nothing.
 use Rattle.std.proofs.Common.{rules}
-use mathlib.Core.Path.{◌≡◌, sym, ap, subst, ◌∙◌}
+use mathlib.Core.Path.{ap, subst, ◌∙◌}
 use native.Mathlib.Omega.{arith}
 use lib.ListN.{length-set, get_or}
 use Prim.Native.Nat.{◌-◌}

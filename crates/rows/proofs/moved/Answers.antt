@@ -1,16 +1,12 @@
 -- `rows::moved` meets its contract: what f gives of the rows so far stands at the front, for whatever g says what f gives. Assumes nothing.
-use Rattle.std.proofs.Common.{rules, slice_index_or}
-use mathlib.Core.Path.{◌≡◌, refl, sym, ap, subst, ◌∙◌}
-use mathlib.Core.List.{[]}
+use Rattle.std.proofs.Common.{rules}
+use mathlib.Core.Path.{sym, ap, ◌∙◌}
 use native.Mathlib.Omega.{arith}
 use native.Mathlib.Numerals.{unary_clauses}
-use lib.ListN.{length, length-replicate, length-set, take, drop, get_or, replicate}
-use lib.Seq.{length-take-le, get_or-take}
-use Rattle.laws.specs.Slots.{slots}
+use lib.ListN.{length, length-replicate, length-set, replicate}
 use Rattle.laws.specs.Sorted.{move}
-use Rattle.laws.proofs.Fill.{Held, held_room, held_full, held_each, held_next, begin, turn, instead, done, row_end}
-use Rattle.tables.specs.View.{AtPath}
-use Rattle.rows.specs.Tables.{RowSound, Step, Gives, seen, table_of, table_with}
+use Rattle.laws.proofs.Fill.{begin}
+use Rattle.rows.specs.Tables.{table_with}
 use Rattle.rows.proofs.Steps.{row_room, row_sound, filled_more, filled_past, filled_end, table_held}
 use Rattle.rows.proofs.moved.Goals as goal
 use Rattle.rows.proofs.moved.Goals.{In-loop-row, After-row-item, in-Some, in_default}

@@ -1,8 +1,7 @@
 -- `rows::paste` meets its contract: the branch below q is put among what has moved up. Assumes nothing.
 use Rattle.std.proofs.Common.{rules}
-use mathlib.Core.Path.{◌≡◌, refl, ap₂, ◌∙◌}
+use mathlib.Core.Path.{refl, ap₂, ◌∙◌}
 use native.Mathlib.Omega.{arith}
-use lib.ListN.{length}
 use Rattle.laws.specs.Sorted.{merge}
 use Rattle.laws.proofs.Inplace.{held_size}
 use Rattle.path.proofs.Structs.{path_valid}

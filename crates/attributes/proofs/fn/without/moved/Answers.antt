@@ -1,12 +1,9 @@
 -- The attribute, unless it is the one of that name at p. Assumes nothing.
-use Rattle.std.specs.Prelude.{Some}
-use mathlib.Core.Path.{ap, sym, ◌∙◌}
 use Rattle.path.specs.View.{steps}
 use Rattle.model.specs.Moves.{other_attribute}
 use Rattle.tables.specs.View.{view_attribute, attribute_of}
 use Rattle.tables.proofs.Rows.{attribute_same}
-use Rattle.moves.proofs.Kept.{so_not}
-use Rattle.rows.proofs.Steps.{kept, dropped}
+use Rattle.rows.proofs.Steps.{so_not, kept, dropped}
 use Rattle.attributes.proofs.fn.without.moved.Goals as goal
 
 pub returns-then-is_at : goal.returns-then-is_at

@@ -3,8 +3,7 @@ use Rattle.path.specs.View.{steps}
 use Rattle.model.specs.Moves.{other_permission}
 use Rattle.tables.specs.View.{view_grant, view_permission, permission_of}
 use Rattle.tables.proofs.Rows.{permission_same}
-use Rattle.moves.proofs.Kept.{so_not}
-use Rattle.rows.proofs.Steps.{kept, dropped}
+use Rattle.rows.proofs.Steps.{so_not, kept, dropped}
 use Rattle.permissions.proofs.fn.except.moved.Goals as goal
 
 pub returns-then-is_exactly : goal.returns-then-is_exactly

@@ -1,5 +1,4 @@
 -- The row as it is after an add or a paste at q. Assumes nothing.
-use Rattle.std.proofs.Common.{rules}
 use mathlib.Core.Path.{ap, ◌∙◌}
 use Rattle.std.specs.Prelude.{Some}
 use Rattle.path.specs.Address.{up}
