@@ -87,11 +87,9 @@ pub fn path_at(s: &[u8], at: usize) -> Option<Path>
     if 6 < len {
         return None;
     }
-    let first = at + 1;
     let n = len as usize;
     let mut k = u64::from(len);
-    for i in 0..6 {
-        let x = s[first + i];
+    for (i, &x) in s[at + 1..at + 7].iter().enumerate() {
         if !step_fits(i, n, x) {
             return None;
         }
