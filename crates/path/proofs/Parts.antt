@@ -1,5 +1,6 @@
 -- Laws of addresses: tests, parts, what is beside and below. Assumes nothing.
 use mathlib.Core.Path.{◌≡◌, refl, sym, ap, ◌∙◌}
+use mathlib.Core.Logic.{◌⊎◌, inl, inr}
 use mathlib.Core.Bool.{Bool, true, false, ◌&&◌}
 use mathlib.Core.Option.{none, some}
 use mathlib.Core.List.{[], ◌∷◌}
@@ -47,6 +48,12 @@ beside_short (x ∷ []) [] h = refl
 beside_short (x ∷ []) (y ∷ p) h = absurd (omega arith)
 beside_short (x ∷ x' ∷ q) [] h = refl
 beside_short (x ∷ x' ∷ q) (y ∷ p) h = pick_same (eqb x y) (beside_short (x' ∷ q) p (omega arith))
+
+-- what is not beside q: q is the root, or p is shorter
+pub beside_off : (q p : Address) {k n : ℕ} → k ≡ length q → n ≡ length p → ((0 < k × n < k) ⊎ (k ≤ 0)) → beside q p ≡ false
+beside_off q p e f (inl w) = beside_short q p (omega (arith, w.1))
+beside_off [] p e f (inr w) = refl
+beside_off (x ∷ q) p e f (inr w) = absurd (omega arith)
 
 pub beside_long : (q p : Address) → beside q p ≡ true → (0 < length q) × (length q ≤ length p)
 beside_long [] p e = no (sym e)
