@@ -9,13 +9,13 @@ use native.Mathlib.Numerals.{add-one}
 use native.Mathlib.Omega.{arith}
 use lib.Dec.{T, eqb, leb, ltb}
 use lib.ListN.{length, take, drop, get_or, replicate, length-drop}
-use lib.Seq.{length-take-le, take_all, take-suc, take_at, drop-cons, get_or-take, get_or-drop}
+use lib.Seq.{length-take-le, take_all, take-suc, take_at, drop-cons}
 use mir.Facts.{and_yes, yes_and}
 use mir.Syntax.{w64}
 use borrow.Author.Tests.{ltb-true, ltb-false, le-leb, lt-leb, eq-eqb, ne_eqb}
 use Rattle.std.specs.Int.{to_be_bytes}
 use Rattle.laws.specs.Slots.{pick, slots, same_bytes}
-use Rattle.laws.proofs.Fill.{list_next, slots_length}
+use Rattle.laws.proofs.Fill.{slots_length}
 use Rattle.laws.proofs.Same.{same_bytes_lem, bytes_same}
 use Rattle.path.specs.Address.{Address, valid, steps_good}
 use Rattle.path.specs.Bytes.{step_bytes, read_steps, step_fits}
@@ -142,20 +142,6 @@ pack_slots : (n : ℕ) (l : List ℕ) → length l ≤ n → pack n (slots n 0 l
 pack_slots n l h = let a = pack_append l (replicate (n - length l) 0) n (n - length l) (omega arith) in let b = pack_blank (n - length l) (n - length l) in omega arith
 
 -- ---- the seven bytes are the digits
-blank_read : (n i : ℕ) → ◌≡◌ {A = ℕ} (get_or (replicate n 0) i 0) 0
-blank_read zero i = refl
-blank_read (suc n) zero = refl
-blank_read (suc n) (suc i) = blank_read n i
-
-slot_read : (l : List ℕ) (n i : ℕ) → get_or (l ++ replicate n 0) i 0 ≡ get_or l i 0
-slot_read [] n i = blank_read n i
-slot_read (x ∷ l) n zero = refl
-slot_read (x ∷ l) n (suc i) = slot_read l n i
-
-pub byte_read : (l : Address) (i : ℕ) → get_or (step_bytes l) i 0 ≡ get_or (length l ∷ l) i 0
-byte_read l zero = refl
-byte_read l (suc i) = slot_read l (6 - length l) i
-
 pub bytes_length : (l : Address) → length l ≤ 6 → length (step_bytes l) ≡ 7
 bytes_length l h = ap suc (slots_length 6 0 l h)
 
@@ -175,18 +161,7 @@ key_bytes p h =
     ∙ digits_pack (step_bytes l) 7 7 0 (omega arith, small_append l (replicate (6 - length l) 0) f.small (small_blank (6 - length l))) (bytes_length l f.short) (omega arith)
 
 -- ---- what the bytes are read as
-and_no : (a b : Bool) → (a && (false && b)) ≡ false
-and_no true b = refl
-and_no false b = refl
-
 module _ (n : ℕ) (t : List ℕ) (full : length t ≡ 6) where
-  pub read_deep : 6 < n → read_steps (n ∷ t) ≡ none
-  read_deep h =
-      let e = ap length (take_all n t (omega arith)) in
-      let p = take n t in
-      ap (λ b. pick (valid p && (b && same_bytes (slots 6 0 p) t)) (some p) none) (ne_eqb (length p) n (λ f. omega arith))
-      ∙ ap (λ b. pick b (some p) none) (and_no (valid p) (same_bytes (slots 6 0 p) t))
-
   module _ (h : n ≤ 6) where
     size : length (take n t) ≡ n
     size = length-take-le n t (omega arith)
@@ -221,19 +196,19 @@ module _ (n : ℕ) (t : List ℕ) (full : length t ≡ 6) where
         path_is l (omega arith) (small_front l (replicate (6 - length l) 0) (subst Small s w.small))
         (w.is ∙ ap₂ (λ a b. a * 256 ^ 6 + b) (sym m) z)
 
--- ---- the seven bytes from at on: the length, and six steps from k on
-pub seven : (s : List ℕ) (at : ℕ) → at + 7 ≤ length s → take 7 (drop at s) ≡ get_or s at 0 ∷ take 6 (drop (at + 1) s)
-seven s at h = ap (take 7) (drop-cons s at 0 (omega arith)) ∙ ap (λ k. get_or s at 0 ∷ take 6 (drop k s)) (sym (add-one at))
+-- ---- the seven bytes from at on: the length, and six steps
+abbrev pub six : List ℕ → ℕ → List ℕ
+six s at = take (at + 7 - (at + 1)) (drop (at + 1) s)
 
-module _ (s : List ℕ) (k : ℕ) (room : k + 6 ≤ length s) where
-  pub six_length : length (take 6 (drop k s)) ≡ 6
-  six_length = let d = length-drop k s in length-take-le 6 (drop k s) (omega arith)
+module _ (s : List ℕ) (at : ℕ) (room : at + 7 ≤ length s) where
+  pub seven : take 7 (drop at s) ≡ get_or s at 0 ∷ six s at
+  seven =
+      let n : 6 ≡ at + 7 - (at + 1) = omega arith in
+      ap (take 7) (drop-cons s at 0 (omega arith)) ∙ ap₂ (λ j k. get_or s at 0 ∷ take j (drop k s)) n (sym (add-one at))
 
-  module _ (i : ℕ) (h : i < 6) where
-    pub six_read : get_or s (k + i) 0 ≡ get_or (take 6 (drop k s)) i 0
-    six_read = sym (get_or-take 6 (drop k s) i 0 h ∙ get_or-drop k s i 0)
+  pub six_length : length (six s at) ≡ 6
+  six_length = let d = length-drop (at + 1) s in length-take-le (at + 7 - (at + 1)) (drop (at + 1) s) (omega arith) ∙ omega arith
 
-    pub six_next : drop i (take 6 (drop k s)) ≡ get_or s (k + i) 0 ∷ drop (i + 1) (take 6 (drop k s))
-    six_next =
-        let d = length-drop k s in
-        list_next (drop k s) 6 i 0 h (omega arith) ∙ ap (λ (x : ℕ). x ∷ drop (i + 1) (take 6 (drop k s))) (get_or-drop k s i 0)
+-- step i, and those behind it
+pub six_next : (t : List ℕ) (i : ℕ) → i < length t → drop i t ≡ get_or t i 0 ∷ drop (i + 1) t
+six_next t i h = drop-cons t i 0 h ∙ ap (λ k. get_or t i 0 ∷ drop k t) (sym (add-one i))

@@ -50,9 +50,6 @@ pub fall_length : (q p : Address) → length (fall q p) ≡ length p
 fall_length q p = at_last_length lower q p
 
 -- "objects at or below q go"; the others stay, moved or not
-pub down_gone : (q p : Address) → under q p ≡ true → down q p ≡ none
-down_gone q p e = ap (λ (b : Bool). pick b none (some (fall q p))) e
-
 pub down_stays : (q p : Address) → under q p ≡ false → down q p ≡ some (fall q p)
 down_stays q p e = ap (λ (b : Bool). pick b none (some (fall q p))) e
 
@@ -141,11 +138,6 @@ pub parent_child : (p : Address) (s : ℕ) → parent (child p s) ≡ p
 parent_child [] s = refl
 parent_child (x ∷ []) s = refl
 parent_child (x ∷ y ∷ p) s = ap (λ (r : Address). x ∷ r) (parent_child (y ∷ p) s)
-
-pub last_child : (p : Address) (s : ℕ) → last (child p s) ≡ s
-last_child [] s = refl
-last_child (x ∷ []) s = refl
-last_child (x ∷ y ∷ p) s = last_child (y ∷ p) s
 
 pub child_parent : (k : ℕ) (q : Address) → child (parent (k ∷ q)) (last (k ∷ q)) ≡ k ∷ q
 child_parent k [] = refl

@@ -1,5 +1,6 @@
 -- Laws of addresses: tests, parts, what is beside and below. Assumes nothing.
 use mathlib.Core.Path.{◌≡◌, refl, sym, ap, ◌∙◌}
+use mathlib.Core.Logic.{◌⊎◌, inl, inr}
 use mathlib.Core.Bool.{Bool, true, false, ◌&&◌}
 use mathlib.Core.Option.{none, some}
 use mathlib.Core.List.{[], ◌∷◌}
@@ -8,7 +9,7 @@ use native.Mathlib.Omega.{arith}
 use lib.Dec.{T, eqb, leb, leb→le}
 use lib.ListN.{length, get_or, set, drop, length-append}
 use lib.Seq.{get_or_at}
-use borrow.Author.Tests.{le-leb, lt-leb}
+use borrow.Author.Tests.{le-leb}
 use Rattle.laws.specs.Slots.{pick}
 use Rattle.path.specs.Address.{Address, valid, steps_good, under, beside, at_last, parent, last, child, in_depth, off}
 
@@ -41,16 +42,18 @@ pub valid_small : (l : Address) → T (valid l) → (i : ℕ) → get_or l i 0 �
 valid_small l t = good_small l (both (leb (length l) 6) (steps_good l) t).1
 
 -- ---- beside
-pub beside_root : (q p : Address) → length q ≡ 0 → beside q p ≡ false
-beside_root [] p e = refl
-beside_root (x ∷ q) p e = absurd (omega arith)
-
 pub beside_short : (q p : Address) → length p < length q → beside q p ≡ false
 beside_short [] p h = refl
 beside_short (x ∷ []) [] h = refl
 beside_short (x ∷ []) (y ∷ p) h = absurd (omega arith)
 beside_short (x ∷ x' ∷ q) [] h = refl
 beside_short (x ∷ x' ∷ q) (y ∷ p) h = pick_same (eqb x y) (beside_short (x' ∷ q) p (omega arith))
+
+-- what is not beside q: q is the root, or p is shorter
+pub beside_off : (q p : Address) {k n : ℕ} → k ≡ length q → n ≡ length p → ((0 < k × n < k) ⊎ (k ≤ 0)) → beside q p ≡ false
+beside_off q p e f (inl w) = beside_short q p (omega (arith, w.1))
+beside_off [] p e f (inr w) = refl
+beside_off (x ∷ q) p e f (inr w) = absurd (omega arith)
 
 pub beside_long : (q p : Address) → beside q p ≡ true → (0 < length q) × (length q ≤ length p)
 beside_long [] p e = no (sym e)
@@ -117,9 +120,6 @@ last_read l n e =
 
 pub in_depth_fits : (l : Address) → length l ≤ 6 → in_depth l ≡ some l
 in_depth_fits l h = rw (le-leb (length l) 6 h)
-
-pub in_depth_deep : (l : Address) → 6 < length l → in_depth l ≡ none
-in_depth_deep l h = rw (lt-leb (length l) 6 h)
 
 -- ---- the parent of a path is a path
 map_and : (a b c : Bool) → (T b → T c) → T (a && b) → T (a && c)

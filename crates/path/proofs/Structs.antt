@@ -13,7 +13,7 @@ use lib.Pow.{are_bytes}
 use lib.ListN.{length, take, replicate, length-append, length-replicate}
 use lib.Seq.{length-take-le, take-append-le}
 use mir.Facts.{yes_and}
-use borrow.Author.Tests.{eq-eqb, ne_eqb, le-ltb, lt-ltb, le-leb, lt-leb}
+use borrow.Author.Tests.{eq-eqb, ne_eqb, le-ltb, lt-ltb, le-leb}
 use Rattle.laws.proofs.Fill.{is_fits}
 use Rattle.path.specs.Address.{Address, valid, steps_good, parent}
 use Rattle.path.specs.Packed.{pack, digits, code, raise, decode, fits, number, address}
@@ -131,9 +131,6 @@ asked_length p =
     let r = length-replicate {A = ℕ} p.len 0 in
     let a = length-append p.steps (replicate p.len 0) in
     length-take-le p.len (p.steps ++ replicate p.len 0) (omega arith)
-
-pub asked_deep : (p : RawPath) → 6 < p.len → valid (asked p) ≡ false
-asked_deep p h = let n = asked_length p in rw (lt-leb (length (asked p)) 6 (omega arith))
 
 pub asked_short : (p : RawPath) → T (valid (asked p)) → p.len ≤ 6
 asked_short p v = let n = asked_length p in let s = valid_short (asked p) v in omega arith

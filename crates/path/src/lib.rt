@@ -27,7 +27,7 @@ pub struct RawPath {
 }
 
 // What the length counts in the number: six digits below it are the steps.
-const STEPS: u64 = 281474976710656;
+const STEPS: u64 = 1 << 48;
 
 // ---- a host's bytes
 
@@ -59,6 +59,7 @@ pub fn path_of(p: RawPath) -> Path
 }
 
 // The bytes of a path, as a host has them. Any path will do.
+// A function, as `path_of` is: that one asks for valid bytes, so no `From` can stand for it, and two forms for one pair are no plainer.
 pub fn raw_of(p: Path) -> RawPath
     ensures { result ≡ raw_of p }
 {
@@ -87,11 +88,9 @@ pub fn path_at(s: &[u8], at: usize) -> Option<Path>
     if 6 < len {
         return None;
     }
-    let first = at + 1;
     let n = len as usize;
     let mut k = u64::from(len);
-    for i in 0..6 {
-        let x = s[first + i];
+    for (i, &x) in s[at + 1..at + 7].iter().enumerate() {
         if !step_fits(i, n, x) {
             return None;
         }
@@ -104,7 +103,7 @@ pub fn path_at(s: &[u8], at: usize) -> Option<Path>
 fn step_fits(i: usize, n: usize, x: u8) -> bool
     ensures { result ≡ step_fits i n x }
 {
-    (i < n) & ((1 <= x) & (x <= 32)) | (n <= i) & (x == 0)
+    if i < n { (1..=32).contains(&x) } else { x == 0 }
 }
 
 // Writes the seven bytes of p from at on.
@@ -172,13 +171,8 @@ pub fn is_beside(p: Path, q: Path) -> bool
     ensures { result ≡ beside (steps q) (steps p) }
 {
     let k = size(q);
-    if k == 0 {
-        return false;
-    }
-    if size(p) < k {
-        return false;
-    }
-    front(p, k - 1) == front(q, k - 1)
+    let n = size(p);
+    0 < k && k <= n && front(p, k - 1) == front(q, k - 1)
 }
 
 // Whether p is q or below q.
