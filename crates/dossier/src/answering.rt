@@ -1,9 +1,10 @@
 // A line's call is made on the session. The session goes through every call by value.
 ghost use Rattle.state.specs.View.{SessionSound};
 
-use files::reading::Reader;
+use answers::line::Line;
 use lines::calls::{Call, call_in};
-use lines::whys::TOO_LONG;
+use lines::forms::Kind;
+use lines::whys::Why;
 use serve::{
     answered, ask_image, call_image, renewed, requested, save, save_clipboard, say_bad,
     show_dossier, signed, start_again, store, take_log,
@@ -11,30 +12,26 @@ use serve::{
 use show::helping::help;
 use state::Session;
 use std::rt::Files;
-use words::{Word, word_of};
 
+// The calls that leave the session as it is.
 fn look(
     rt: &(impl Files + Print),
     s: Session,
     c: Call,
-    line: &[u8],
     number: u64,
     image: &mut [u8],
     lent: &mut [u8],
-    out: &mut [u8],
+    out: &mut Line,
 )
     requires { SessionSound s }
 {
-    let r = c.request;
-    let kind = c.kind;
-    match kind {
-        23 => save(rt, s, c, lent, out),
-        24 => save_clipboard(rt, s, c, lent, out),
-        26 => ask_image(rt, c, line, number, image, lent, out),
-        27 => store(rt, s, c, line, number, lent, out),
-        28 => show_dossier(rt, s, r.dossier, out),
-        29 => help(rt),
-        _ => say_bad(rt, number, c.why, out),
+    match c.kind {
+        Kind::Save => save(rt, s, c, lent, out),
+        Kind::Clipboard => save_clipboard(rt, s, c, lent, out),
+        Kind::Ask => ask_image(rt, c, number, image, lent, out),
+        Kind::Store => store(rt, s, c, number, lent, out),
+        Kind::Show => show_dossier(rt, &s, c.request.dossier, out),
+        _ => help(rt),
     }
 }
 
@@ -42,74 +39,54 @@ fn make_call(
     rt: &(impl Files + Print),
     s: Session,
     c: Call,
-    line: &[u8],
     number: u64,
     image: &mut [u8],
     lent: &mut [u8],
-    out: &mut [u8],
+    out: &mut Line,
 ) -> Session
     requires { SessionSound s }
     ensures { SessionSound result }
 {
     let r = c.request;
-    let kind = c.kind;
-    match kind {
-        17 | 18 | 22 => call_image(rt, s, c, line, number, image, out),
-        19 => start_again(rt, out),
-        20 => answered(rt, renewed(s, r.dossier, r.user), b"", out),
-        21 => answered(rt, signed(s, r.user, c.agreement), b"", out),
-        25 => take_log(rt, s, c, lent, out),
-        0 | 23 | 24 | 26 | 27 | 28 | 29 => {
-            look(rt, s, c, line, number, image, lent, out);
+    match c.kind {
+        Kind::Request(17) | Kind::AnyRequest | Kind::Load => {
+            call_image(rt, s, c, number, image, out)
+        }
+        Kind::Request(_) => answered(rt, requested(s, r, b""), b"", out),
+        Kind::Start => start_again(rt, out),
+        Kind::New => answered(rt, renewed(s, r.dossier, r.user), b"", out),
+        Kind::Sign => answered(rt, signed(s, r.user, c.agreement), b"", out),
+        Kind::Log => take_log(rt, s, c, lent, out),
+        _ => {
+            look(rt, s, c, number, image, lent, out);
             s
         }
-        _ => answered(rt, requested(s, r, b""), b"", out),
     }
 }
 
 // A line without its end: nothing for an empty one and for a comment, else its call is made.
-fn answer_words(
-    rt: &(impl Files + Print),
-    s: Session,
-    line: &[u8],
-    number: u64,
-    image: &mut [u8],
-    lent: &mut [u8],
-    out: &mut [u8],
-) -> Session
-    requires { SessionSound s }
-    ensures { SessionSound result }
-{
-    if line.len() == 0 {
-        return s;
-    }
-    if line[0] == 35 {
-        return s;
-    }
-    let c = call_in(line);
-    make_call(rt, s, c, line, number, image, lent, out)
-}
-
 pub fn answer_line(
     rt: &(impl Files + Print),
     s: Session,
     number: u64,
-    r: Reader,
-    line: &[u8; 131072],
+    line: Result<&[u8], Why>,
     image: &mut [u8; 65536],
     lent: &mut [u8; 32768],
-    out: &mut [u8; 70000],
+    out: &mut Line,
 ) -> Session
     requires { SessionSound s }
     ensures { SessionSound result }
 {
-    if r.long {
-        say_bad(rt, number, TOO_LONG, out);
-        return s;
-    }
-    let words = Word {
-        start: 0,
-        end: r.len,
+    let call = match line {
+        Ok([] | [b'#', ..]) => return s,
+        Ok(words) => call_in(words),
+        Err(why) => Err(why),
     };
-    answer_words(rt, s, word_of(line, words), number, image, lent, out)
+    match call {
+        Ok(c) => make_call(rt, s, c, number, image, lent, out),
+        Err(why) => {
+            say_bad(rt, number, why, out);
+            s
+        }
+    }
 }

@@ -3,34 +3,30 @@
 #![tactic(auto)]
 
 use crate::answering::answer_line;
-use files::reading::{fresh_reader, next_line};
+use answers::line::Line;
+use files::reading::Reader;
 use serve::fresh;
 use show::helping::help;
 use std::env::{Env, FillError};
 use std::fs;
 use std::io::Read;
 use std::rt::Files;
-use words::is_word;
 
 mod answering;
 
 // A proved loop has to end, and nothing says that a file does: so the lines are counted, up to a number that no run reaches.
 fn answer_all(rt: &(impl Files + Print), file: &mut impl Read) {
-    let mut line = [0u8; 131072];
-    let mut piece = [0u8; 65536];
+    let mut held = [0u8; 131072];
     let mut image = [0u8; 65536];
     let mut lent = [0u8; 32768];
-    let mut out = [0u8; 70000];
+    let mut out = Line::new();
+    let mut reader = Reader::new();
     let mut s = fresh();
-    let mut r = fresh_reader();
-    let mut n: u64 = 0;
-    while n < u64::MAX {
-        n += 1;
-        r = next_line(file, &mut line, &mut piece, r);
-        if r.ended {
+    for number in 1..u64::MAX {
+        let Some(line) = reader.next_line(file, &mut held) else {
             return;
-        }
-        s = answer_line(rt, s, n, r, &line, &mut image, &mut lent, &mut out);
+        };
+        s = answer_line(rt, s, number, line, &mut image, &mut lent, &mut out);
     }
 }
 
@@ -54,12 +50,9 @@ fn main(rt: HostRuntime) {
         Err(FillError::TooLong) => {
             let _ = rt.eprintln("dossier: File name too long");
         }
-        Ok(n) => {
-            if is_word(&path[..n], b"--help") {
-                help(&rt);
-                return;
-            }
-            answer_file(&rt, &path[..n]);
-        }
+        Ok(n) => match &path[..n] {
+            b"--help" => help(&rt),
+            name => answer_file(&rt, name),
+        },
     }
 }

@@ -1,27 +1,15 @@
 // Images from files and to files; the lines of a script stand in `reading`.
 #![tactic(auto)]
 
-use answers::put_text;
-use lines::whys::NOT_READ;
-use std::fs;
+use lines::forms::Operand;
+use lines::whys::Why;
 use std::fs::OpenFile;
 use std::io::{Read, Write};
 use std::rt::Files;
-use words::hex::{Count, hex_in};
-use words::{Word, starts_with, word_of};
+use std::{fs, io};
+use words::hex::hex_in;
 
 pub mod reading;
-
-// How many bytes an image has; `why` is not 0 where it is none.
-#[derive(Clone, Copy)]
-pub struct Image {
-    pub len: usize,
-    pub why: u8,
-}
-
-fn no_image(why: u8) -> Image {
-    Image { len: 0, why: why }
-}
 
 // Reads until the buffer is full, the file ends or a read fails, and answers how many bytes came.
 fn read_full(file: &mut impl Read, out: &mut [u8]) -> usize {
@@ -37,72 +25,59 @@ fn read_full(file: &mut impl Read, out: &mut [u8]) -> usize {
 }
 
 // All of a file, if there is room for it. What follows it must be its end: a read that fails is no end. A name that is no UTF-8 names none.
-fn file_in(rt: &impl Files, path: &[u8], image: &mut [u8]) -> Image {
-    let Ok(name) = str::from_utf8(path) else {
-        return no_image(NOT_READ);
-    };
-    let Ok(mut file) = fs::open(rt, name) else {
-        return no_image(NOT_READ);
-    };
+fn file_in(rt: &impl Files, path: &[u8], image: &mut [u8]) -> Result<usize, Why> {
+    let name = str::from_utf8(path).map_err(|_| Why::NotRead)?;
+    let mut file = fs::open(rt, name).map_err(|_| Why::NotRead)?;
     let n = read_full(&mut file, image);
     let mut one = [0u8; 1];
     match file.read(&mut one) {
-        Ok(0) => Image { len: n, why: 0 },
-        _ => no_image(NOT_READ),
+        Ok(0) => Ok(n),
+        _ => Err(Why::NotRead),
     }
 }
 
-// The image that a word is: hex, or the bytes of the file that it names behind an @.
-pub fn image_in(rt: &impl Files, line: &[u8], w: Word, image: &mut [u8]) -> Image {
-    let s = word_of(line, w);
-    if starts_with(s, b"@") {
-        let name = Word {
-            start: 1,
-            end: s.len(),
-        };
-        return file_in(rt, word_of(s, name), image);
+// The image that a word is, at the front of the buffer, and how many bytes it has: hex, or the bytes of the file that it names behind an @.
+pub fn image_in(rt: &impl Files, word: &[u8], image: &mut [u8]) -> Result<usize, Why> {
+    match word.strip_prefix(b"@") {
+        Some(path) => file_in(rt, path, image),
+        None => hex_in(word, image).ok_or(Why::Word(Operand::Image)),
     }
-    match hex_in(s, image) {
-        Count::Is(n) => Image { len: n, why: 0 },
-        Count::Bad => no_image(b'i'),
+}
+
+// A name with `.new` behind it, at the front of the buffer; None where there is no room for it.
+fn beside<'a>(path: &[u8], name: &'a mut [u8; 4096]) -> Option<&'a [u8]> {
+    let ending = b".new";
+    let end = path.len().checked_add(ending.len())?;
+    if name.len() < end {
+        return None;
     }
+    name[..path.len()].copy_from_slice(path);
+    name[path.len()..end].copy_from_slice(ending);
+    Some(&name[..end])
 }
 
 // Written beside and renamed, so that the old file stays as it was where the new one cannot be written.
-pub fn stored(rt: &impl Files, path: &[u8], bytes: &[u8]) -> bool {
+pub fn stored(rt: &impl Files, path: &[u8], bytes: &[u8]) -> Result<(), Why> {
     let mut name = [0u8; 4096];
-    let at = put_text(&mut name, 0, path);
-    let end = put_text(&mut name, at, b".new");
-    if end != path.len() + 4 {
-        return false;
-    }
-    let whole = Word { start: 0, end: end };
-    let Ok(to) = str::from_utf8(path) else {
-        return false;
-    };
-    let Ok(beside) = str::from_utf8(word_of(&name, whole)) else {
-        return false;
-    };
-    if !written(rt, beside, bytes) {
-        return false;
-    }
+    let name = beside(path, &mut name).ok_or(Why::NotWritten)?;
+    let beside = str::from_utf8(name).map_err(|_| Why::NotWritten)?;
+    let to = str::from_utf8(path).map_err(|_| Why::NotWritten)?;
+    written(rt, beside, bytes).map_err(|_| Why::NotWritten)?;
     if fs::rename(rt, beside, to).is_ok() {
-        return true;
+        return Ok(());
     }
     let _ = fs::remove_file(rt, beside);
-    false
+    Err(Why::NotWritten)
 }
 
-fn written(rt: &impl Files, path: &str, bytes: &[u8]) -> bool {
-    let Ok(mut file) = fs::create(rt, path) else {
-        return false;
-    };
+fn written(rt: &impl Files, path: &str, bytes: &[u8]) -> io::Result<()> {
+    let mut file = fs::create(rt, path)?;
     // Nothing is told when a file is closed, so what a late write comes to is asked before.
-    let put = file.write_all(bytes).is_ok();
-    let kept = file.sync_all().is_ok();
-    if put & kept {
-        return true;
+    let put = file.write_all(bytes);
+    let kept = file.sync_all();
+    let done = put.and(kept);
+    if done.is_err() {
+        let _ = fs::remove_file(rt, path);
     }
-    let _ = fs::remove_file(rt, path);
-    false
+    done
 }

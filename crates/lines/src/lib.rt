@@ -2,4 +2,5 @@
 #![tactic(auto)]
 
 pub mod calls;
+pub mod forms;
 pub mod whys;

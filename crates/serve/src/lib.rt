@@ -4,11 +4,13 @@
 ghost use Rattle.state.specs.View.{SessionSound};
 ghost use Rattle.std.specs.Counts.{IsPrefixLen};
 
+use answers::line::Line;
 use answers::{put_answer, put_asked, put_stored};
 use ask::dossier_ask;
 use files::{image_in, stored};
-use lines::calls::{Call, LOAD};
-use lines::whys::{NOT_WRITTEN, put_bad};
+use lines::calls::Call;
+use lines::forms::Kind;
+use lines::whys::{Why, put_bad};
 use parse::numbers::read4;
 use session::{
     start, via_load, via_renew, via_request, via_save, via_save_clipboard, via_sign, via_take_log,
@@ -16,18 +18,19 @@ use session::{
 use show::{say, show};
 use state::{Answer, Outcome, Request, Session, Stepped, plain};
 use std::rt::Files;
-use words::{Word, word_of};
 
 // ---- what is written
 
-fn say_answer(rt: &impl Print, a: Answer, lent: &[u8], out: &mut [u8]) {
-    let n = put_answer(out, a, lent);
-    say(rt, out, n);
+fn say_answer(rt: &impl Print, a: Answer, lent: &[u8], out: &mut Line) {
+    out.clear();
+    let _ = put_answer(out, a, lent);
+    say(rt, out);
 }
 
-pub fn say_bad(rt: &impl Print, number: u64, why: u8, out: &mut [u8]) {
-    let n = put_bad(out, number, why);
-    say(rt, out, n);
+pub fn say_bad(rt: &impl Print, number: u64, why: Why, out: &mut Line) {
+    out.clear();
+    let _ = put_bad(out, number, why);
+    say(rt, out);
 }
 
 // ---- the calls: each leaves a sound session
@@ -76,16 +79,15 @@ fn log_taken(s: Session, out: &mut [u8]) -> Stepped
 // ---- calls that leave a session
 
 // The answer is written, and the session handed on.
-pub fn answered(rt: &impl Print, o: Stepped, lent: &[u8], out: &mut [u8]) -> Session
+pub fn answered(rt: &impl Print, o: Stepped, lent: &[u8], out: &mut Line) -> Session
     requires { SessionSound o.session }
     ensures { SessionSound result }
 {
-    let a = o.answer;
-    say_answer(rt, a, lent, out);
+    say_answer(rt, o.answer, lent, out);
     o.session
 }
 
-pub fn start_again(rt: &impl Print, out: &mut [u8]) -> Session
+pub fn start_again(rt: &impl Print, out: &mut Line) -> Session
     ensures { SessionSound result }
 {
     say_answer(rt, plain(Outcome::Done), b"", out);
@@ -97,27 +99,10 @@ fn called(s: Session, c: Call, image: &[u8]) -> Stepped
     requires { SessionSound s }
     ensures { SessionSound result.session }
 {
-    let r = c.request;
-    if c.kind == LOAD {
-        return loaded(s, r.dossier, image);
+    match c.kind {
+        Kind::Load => loaded(s, c.request.dossier, image),
+        _ => requested(s, c.request, image),
     }
-    requested(s, r, image)
-}
-
-fn call_bytes(
-    rt: &impl Print,
-    s: Session,
-    c: Call,
-    image: &[u8],
-    len: usize,
-    out: &mut [u8],
-) -> Session
-    requires { SessionSound s }
-    ensures { SessionSound result }
-{
-    let bytes = Word { start: 0, end: len };
-    let o = called(s, c, word_of(image, bytes));
-    answered(rt, o, b"", out)
 }
 
 // A load, or a request with an image. A word that is left out is empty, which reads as no bytes.
@@ -125,23 +110,26 @@ pub fn call_image(
     rt: &(impl Files + Print),
     s: Session,
     c: Call,
-    line: &[u8],
     number: u64,
     image: &mut [u8],
-    out: &mut [u8],
+    out: &mut Line,
 ) -> Session
     requires { SessionSound s }
     ensures { SessionSound result }
 {
-    let i = image_in(rt, line, c.word, image);
-    if i.why != 0 {
-        say_bad(rt, number, i.why, out);
-        return s;
+    match image_in(rt, c.word, image) {
+        Ok(len) => {
+            let o = called(s, c, image.get(..len).unwrap_or_default());
+            answered(rt, o, b"", out)
+        }
+        Err(why) => {
+            say_bad(rt, number, why, out);
+            s
+        }
     }
-    call_bytes(rt, s, c, image, i.len, out)
 }
 
-pub fn take_log(rt: &impl Print, s: Session, c: Call, lent: &mut [u8], out: &mut [u8]) -> Session
+pub fn take_log(rt: &impl Print, s: Session, c: Call, lent: &mut [u8], out: &mut Line) -> Session
     requires { SessionSound s }
     ensures { SessionSound result }
 {
@@ -156,22 +144,18 @@ pub fn take_log(rt: &impl Print, s: Session, c: Call, lent: &mut [u8], out: &mut
 fn room_in(room: usize, lent: &[u8]) -> usize
     ensures { IsPrefixLen result lent.now }
 {
-    if lent.len() < room {
-        return lent.len();
-    }
-    room
+    room.min(lent.len())
 }
 
-pub fn save(rt: &impl Print, s: Session, c: Call, lent: &mut [u8], out: &mut [u8])
+pub fn save(rt: &impl Print, s: Session, c: Call, lent: &mut [u8], out: &mut Line)
     requires { SessionSound s }
 {
-    let r = c.request;
     let n = room_in(c.room, lent);
-    let a = via_save(s, r.dossier, &mut lent[..n]);
+    let a = via_save(s, c.request.dossier, &mut lent[..n]);
     say_answer(rt, a, lent, out);
 }
 
-pub fn save_clipboard(rt: &impl Print, s: Session, c: Call, lent: &mut [u8], out: &mut [u8])
+pub fn save_clipboard(rt: &impl Print, s: Session, c: Call, lent: &mut [u8], out: &mut Line)
     requires { SessionSound s }
 {
     let n = room_in(c.room, lent);
@@ -184,53 +168,45 @@ pub fn store(
     rt: &(impl Files + Print),
     s: Session,
     c: Call,
-    line: &[u8],
     number: u64,
     lent: &mut [u8],
-    out: &mut [u8],
+    out: &mut Line,
 )
     requires { SessionSound s }
 {
-    let r = c.request;
     let n = room_in(c.room, lent);
-    let a = via_save(s, r.dossier, &mut lent[..n]);
-    let outcome = a.outcome;
-    let Outcome::Wrote(size) = outcome else {
+    let a = via_save(s, c.request.dossier, &mut lent[..n]);
+    let Outcome::Wrote(size) = a.outcome else {
         say_answer(rt, a, lent, out);
         return;
     };
-    let bytes = Word {
-        start: 0,
-        end: size,
-    };
-    if !stored(rt, word_of(line, c.word), word_of(lent, bytes)) {
-        say_bad(rt, number, NOT_WRITTEN, out);
-        return;
+    match stored(rt, c.word, lent.get(..size).unwrap_or_default()) {
+        Ok(()) => {
+            out.clear();
+            let _ = put_stored(out, size);
+            say(rt, out);
+        }
+        Err(why) => say_bad(rt, number, why, out),
     }
-    let end = put_stored(out, size);
-    say(rt, out, end);
 }
 
-pub fn show_dossier(rt: &impl Print, s: Session, n: u8, out: &mut [u8]) {
-    if n == 1 {
-        show(rt, s.one, out);
-        return;
+pub fn show_dossier(rt: &impl Print, s: &Session, n: u8, out: &mut Line) {
+    match n {
+        1 => {
+            let _ = show(rt, &s.one, out);
+        }
+        2 => {
+            let _ = show(rt, &s.two, out);
+        }
+        _ => say_answer(rt, plain(Outcome::Refused(1)), b"", out),
     }
-    if n == 2 {
-        show(rt, s.two, out);
-        return;
-    }
-    say_answer(rt, plain(Outcome::Refused(1)), b"", out);
 }
 
 // ---- a decision on an image
 
 // The number in four bytes of the eight that an ask writes.
 fn four_at(b: &[u8], at: usize) -> u32 {
-    if b.len() < 8 {
-        return 0;
-    }
-    if 4 < at {
+    if b.len() < 8 || 4 < at {
         return 0;
     }
     read4(b, at)
@@ -238,35 +214,29 @@ fn four_at(b: &[u8], at: usize) -> u32 {
 
 fn decision(c: Call, image: &[u8], lent: &mut [u8]) -> u32 {
     let r = c.request;
-    let p = r.path;
-    let t = p.steps;
+    let t = r.path.steps;
     dossier_ask(
-        image, r.role, r.user, r.time, p.len, t[0], t[1], t[2], t[3], t[4], t[5], r.name, c.action,
-        lent,
+        image, r.role, r.user, r.time, r.path.len, t[0], t[1], t[2], t[3], t[4], t[5], r.name,
+        c.action, lent,
     )
-}
-
-fn ask_bytes(rt: &impl Print, c: Call, image: &[u8], len: usize, lent: &mut [u8], out: &mut [u8]) {
-    let bytes = Word { start: 0, end: len };
-    let n = room_in(c.room, lent);
-    let d = decision(c, word_of(image, bytes), &mut lent[..n]);
-    let end = put_asked(out, d, four_at(lent, 0), four_at(lent, 4));
-    say(rt, out, end);
 }
 
 pub fn ask_image(
     rt: &(impl Files + Print),
     c: Call,
-    line: &[u8],
     number: u64,
     image: &mut [u8],
     lent: &mut [u8],
-    out: &mut [u8],
+    out: &mut Line,
 ) {
-    let i = image_in(rt, line, c.word, image);
-    if i.why != 0 {
-        say_bad(rt, number, i.why, out);
-        return;
+    match image_in(rt, c.word, image) {
+        Ok(len) => {
+            let n = room_in(c.room, lent);
+            let d = decision(c, image.get(..len).unwrap_or_default(), &mut lent[..n]);
+            out.clear();
+            let _ = put_asked(out, d, four_at(lent, 0), four_at(lent, 4));
+            say(rt, out);
+        }
+        Err(why) => say_bad(rt, number, why, out),
     }
-    ask_bytes(rt, c, image, i.len, lent, out);
 }

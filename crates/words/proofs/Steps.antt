@@ -1,26 +1,18 @@
 -- An address read step by step. Assumes nothing.
 use mathlib.Core.Path.{◌≡◌, refl, sym, ap, ◌∙◌}
-use mathlib.Core.Option.{Option, none, some}
 use mathlib.Core.List.{List, [], ◌∷◌, ◌++◌, append_assoc, append-nil}
 use Prim.Native.Nat.{ℕ, ◌+◌, ◌≤◌, ◌<◌}
 use native.Mathlib.Omega.{arith}
-use lib.ListN.{length, take, drop, set, length-append}
+use lib.ListN.{length, take, drop, set, get_or, length-append}
 use lib.Seq.{take-append-le}
-use borrow.Author.Tests.{le-leb, lt-leb, lt-ltb, le-ltb}
+use borrow.Author.Tests.{le-leb, lt-leb}
+use Rattle.std.specs.Prelude.{Option, None, Some, option_map}
+use Rattle.std.proofs.lemmas.List.{at_drop_more, at_drop_all}
 use Rattle.laws.specs.Slots.{pick, slots}
 use Rattle.path.specs.declared.RawPath.{RawPath}
-use Rattle.words.specs.Numbers.{decimal, up_to, each, byte_of}
-use Rattle.words.specs.Words.{split, part, parts_after, PartEnd}
+use Rattle.words.specs.Numbers.{decimal, up_to}
+use Rattle.words.specs.Words.{split}
 use Rattle.words.specs.Paths.{before, bytes_in, counted, steps_in, raw_of}
-use Rattle.words.specs.declared.numbers.Byte.TheVariants as byte
-
-pub byte_is : (o : Option ℕ) (n : ℕ) → byte.Is n ≡ byte_of o → o ≡ some n
-byte_is none n e = absurd (let z : ◌≡◌ {A = ℕ} 0 1 = cc in omega arith)
-byte_is (some m) n e = cc
-
-pub byte_bad : (o : Option ℕ) → byte.Bad ≡ byte_of o → o ≡ none
-byte_bad none e = refl
-byte_bad (some m) e = absurd (let z : ◌≡◌ {A = ℕ} 0 1 = cc in omega arith)
 
 -- ---- one step more in the array
 held_next : (l : List ℕ) (n : ℕ) → length l < 6 → set (slots 6 0 (take 6 l)) (length l) n ≡ slots 6 0 (take 6 (l ++ (n ∷ [])))
@@ -45,84 +37,62 @@ step_past p n l e h =
     ∙ (λ i. record { len = sym (length-append l (n ∷ [])) i; steps = slots 6 0 (sym (take-append-le 6 l (n ∷ []) k) i) })
 
 -- ---- the loop: the steps so far, and the parts that are left
-abbrev pub joined : List ℕ → Option (List ℕ) → Option (List ℕ)
-joined done o = each (λ l. done ++ l) o
+abbrev joined : List ℕ → Option (List ℕ) → Option (List ℕ)
+joined done o = option_map (λ l. done ++ l) o
 
-pub record Steps (s : List ℕ) (at : ℕ) (p : RawPath) : Type 0 where
+pub record Steps (s : List ℕ) (n : ℕ) (p : RawPath) : Type 0 where
   pub done : List ℕ
   pub held : p ≡ raw_of done
   pub few : length done ≤ 255
-  pub inside : at ≤ length s
-  pub goes : steps_in s ≡ counted (joined done (bytes_in (split 46 (drop at s))))
+  pub goes : steps_in s ≡ counted (joined done (bytes_in (drop n (split 46 s))))
 
-pub small : {s : List ℕ} {at : ℕ} (p : RawPath) → Steps s at p → p.len ≤ 255
-small p w = let k : p.len ≡ length w.done = ap (λ (x : RawPath). x.len) w.held in let m = w.few in omega arith
+joined_next : (done : List ℕ) (n : ℕ) (o : Option (List ℕ)) → joined done (option_map (λ l. n ∷ l) o) ≡ joined (done ++ (n ∷ [])) o
+joined_next done n None = refl
+joined_next done n (Some l) = ap Some (sym (append_assoc done (n ∷ []) l))
 
-begin_same : (o : Option (List ℕ)) → counted o ≡ counted (joined [] o)
-begin_same none = refl
-begin_same (some l) = refl
+joined_over : (done : List ℕ) (o : Option (List ℕ)) → 255 < length done → counted (joined done o) ≡ None
+joined_over done None h = refl
+joined_over done (Some l) h = let e = length-append done l in ap (λ t. pick t (Some (done ++ l)) None) (lt-leb (length (done ++ l)) 255 (omega arith))
 
-pub steps_begin : (s : List ℕ) (p : RawPath) → p ≡ raw_of [] → Steps s 0 p
-steps_begin s p e = record { done = []; held = e; few = omega arith; inside = omega arith; goes = begin_same (bytes_in (split 46 s)) }
+module _ (s : List ℕ) (n : ℕ) (p : RawPath) (w : Steps s n p) where
+  pub steps_end : length (split 46 s) ≤ n → Some p ≡ option_map raw_of (steps_in s)
+  steps_end h =
+      ap Some w.held
+      ∙ sym (ap (option_map raw_of) (w.goes
+      ∙ ap (λ o. counted (joined w.done o)) (at_drop_all bytes_in (split 46 s) n h)
+      ∙ ap (λ l. counted (Some l)) (append-nil w.done)
+      ∙ ap (λ t. pick t (Some w.done) None) (le-leb (length w.done) 255 w.few)))
 
-joined_next : (done : List ℕ) (n : ℕ) (o : Option (List ℕ)) → joined done (each (λ l. n ∷ l) o) ≡ joined (done ++ (n ∷ [])) o
-joined_next done n none = refl
-joined_next done n (some l) = ap some (sym (append_assoc done (n ∷ []) l))
+  module _ (part : List ℕ) (t : (n < length (split 46 s)) × (part ≡ get_or (split 46 s) n part)) where
+    on : steps_in s ≡ counted (joined w.done (before (up_to 255 (decimal part)) (bytes_in (drop (n + 1) (split 46 s)))))
+    on =
+        w.goes
+        ∙ ap (λ o. counted (joined w.done o)) (at_drop_more bytes_in (split 46 s) n part t.0)
+        ∙ ap (λ q. counted (joined w.done (before (up_to 255 (decimal q)) (bytes_in (drop (n + 1) (split 46 s)))))) (sym t.1)
 
-joined_over : (done : List ℕ) (o : Option (List ℕ)) → 255 < length done → counted (joined done o) ≡ none
-joined_over done none h = refl
-joined_over done (some l) h = let e = length-append done l in ap (λ t. pick t (some (done ++ l)) none) (lt-leb (length (done ++ l)) 255 (omega arith))
+    pub steps_bad : None ≡ up_to 255 (decimal part) → None ≡ option_map raw_of (steps_in s)
+    steps_bad e = sym (ap (option_map raw_of) (on ∙ ap (λ o. counted (joined w.done (before o (bytes_in (drop (n + 1) (split 46 s)))))) (sym e)))
 
-module _ (s : List ℕ) (at r : ℕ) (p : RawPath) (w : Steps s at p) (q : PartEnd 46 at s r) where
-  on : steps_in s ≡ counted (joined w.done (before (up_to 255 (decimal (part at r s))) (bytes_in (parts_after 46 r s))))
-  on = w.goes ∙ ap (λ l. counted (joined w.done (bytes_in l))) q.parts
+    module _ (k : ℕ) (e : Some k ≡ up_to 255 (decimal part)) where
+      went : steps_in s ≡ counted (joined (w.done ++ (k ∷ [])) (bytes_in (drop (n + 1) (split 46 s))))
+      went =
+          on
+          ∙ ap (λ o. counted (joined w.done (before o (bytes_in (drop (n + 1) (split 46 s)))))) (sym e)
+          ∙ ap counted (joined_next w.done k (bytes_in (drop (n + 1) (split 46 s))))
 
-  pub steps_bad : up_to 255 (decimal (part at r s)) ≡ none → steps_in s ≡ none
-  steps_bad e = on ∙ ap (λ o. counted (joined w.done (before o (bytes_in (parts_after 46 r s))))) e
+      length_is : p.len ≡ length w.done
+      length_is = ap (λ (x : RawPath). x.len) w.held
 
-  module _ (n : ℕ) (e : up_to 255 (decimal (part at r s)) ≡ some n) where
-    went : steps_in s ≡ counted (joined (w.done ++ (n ∷ [])) (bytes_in (parts_after 46 r s)))
-    went =
-        on
-        ∙ ap (λ o. counted (joined w.done (before o (bytes_in (parts_after 46 r s))))) e
-        ∙ ap counted (joined_next w.done n (bytes_in (parts_after 46 r s)))
+      pub steps_over : p.len ≡ 255 → None ≡ option_map raw_of (steps_in s)
+      steps_over h =
+          let a = length-append w.done (k ∷ []) in
+          let j = length_is in
+          sym (ap (option_map raw_of) (went ∙ joined_over (w.done ++ (k ∷ [])) (bytes_in (drop (n + 1) (split 46 s))) (omega arith)))
 
-    length_is : p.len ≡ length w.done
-    length_is = ap (λ (x : RawPath). x.len) w.held
-
-    pub steps_over : p.len ≡ 255 → steps_in s ≡ none
-    steps_over h =
-        let a = length-append w.done (n ∷ []) in
-        let k = length_is in
-        went ∙ joined_over (w.done ++ (n ∷ [])) (bytes_in (parts_after 46 r s)) (omega arith)
-
-    module _ (f : RawPath) (g : (l : List ℕ) → p ≡ raw_of l → f ≡ raw_of (l ++ (n ∷ []))) (h : p.len ≡ 255 → ⊥) where
-      room : length (w.done ++ (n ∷ [])) ≤ 255
-      room =
-          let a = length-append w.done (n ∷ []) in
-          let k = length_is in
+      pub steps_next : (f : RawPath) → ((l : List ℕ) → p ≡ raw_of l → f ≡ raw_of (l ++ (k ∷ []))) → (p.len ≡ 255 → ⊥) → Steps s (n + 1) f
+      steps_next f g h =
+          let a = length-append w.done (k ∷ []) in
+          let j = length_is in
           let m = w.few in
-          let x : (length w.done ≡ 255 → ⊥) = λ y. h (k ∙ y) in
-          omega arith
-
-      pub steps_end : r ≡ length s → steps_in s ≡ some (w.done ++ (n ∷ []))
-      steps_end k =
-          went
-          ∙ ap (λ t. counted (joined (w.done ++ (n ∷ [])) (bytes_in (pick t (split 46 (drop (r + 1) s)) [])))) (le-ltb r (length s) (omega arith))
-          ∙ ap (λ l. counted (some l)) (append-nil (w.done ++ (n ∷ [])))
-          ∙ ap (λ t. pick t (some (w.done ++ (n ∷ []))) none) (le-leb (length (w.done ++ (n ∷ []))) 255 room)
-
-      pub end_held : f ≡ raw_of (w.done ++ (n ∷ []))
-      end_held = g w.done w.held
-
-      pub steps_next : (r ≡ length s → ⊥) → Steps s (r + 1) f
-      steps_next k =
-          let m = q.high in
-          let b : r < length s = omega arith in
-          record {
-            done = w.done ++ (n ∷ []);
-            held = g w.done w.held;
-            few = room;
-            inside = omega arith;
-            goes = went ∙ ap (λ t. counted (joined (w.done ++ (n ∷ [])) (bytes_in (pick t (split 46 (drop (r + 1) s)) [])))) (lt-ltb r (length s) b);
-          }
+          let x : (length w.done ≡ 255 → ⊥) = λ y. h (j ∙ y) in
+          record { done = w.done ++ (k ∷ []); held = g w.done w.held; few = omega arith; goes = went }

@@ -1,9 +1,8 @@
 -- Bytes in hex.
-use Rattle.std.specs.Prelude.{Bool, true, ◌&&◌, ◌||◌, List, [], ◌∷◌, ℕ, ◌+◌, ◌-◌, ◌*◌, ◌%◌, eqb, leb, length, get_or}
-use Rattle.std.proofs.Math.Option.{Option, none, some}
-use Rattle.laws.specs.Slots.{pick, put, same_bytes}
-use Rattle.words.specs.declared.hex.Count.{Count}
-use Rattle.words.specs.declared.hex.Count.TheVariants.{Bad, Is}
+use Rattle.std.specs.Prelude.{Bool, ◌&&◌, ◌||◌, List, [], ◌∷◌, ℕ, ◌+◌, ◌-◌, ◌*◌, ◌%◌, eqb, leb, length, get_or, Option, None, Some}
+use Rattle.std.specs.List.{list_all}
+use Rattle.std.specs.Str.{bytes_eq}
+use Rattle.laws.specs.Slots.{pick, put}
 
 -- `0` to `9`, `a` to `f`, `A` to `F`
 abbrev pub is_hex : ℕ → Bool
@@ -14,8 +13,7 @@ abbrev pub nibble : ℕ → ℕ
 nibble b = pick (leb b 57) (b - 48) (pick (leb b 70) (b - 55) (b - 87))
 
 abbrev pub all_hex : List ℕ → Bool
-all_hex [] = true
-all_hex (b ∷ l) = is_hex b && all_hex l
+all_hex s = list_all is_hex s
 
 abbrev pub pair_at : ℕ → List ℕ → ℕ
 pair_at at s = nibble (get_or s at 0) * 16 + nibble (get_or s (at + 1) 0)
@@ -28,18 +26,14 @@ pairs (a ∷ b ∷ l) = (nibble a * 16 + nibble b) ∷ pairs l
 
 -- "hex digits, two to a byte, lower or upper case; `-` for no bytes"
 abbrev pub hex_in : List ℕ → Option (List ℕ)
-hex_in s = pick (same_bytes s (45 ∷ [])) (some []) (pick (eqb (length s % 2) 0 && all_hex s) (some (pairs s)) none)
+hex_in s = pick (bytes_eq s (45 ∷ [])) (Some []) (pick (eqb (length s % 2) 0 && all_hex s) (Some (pairs s)) None)
 
 -- bytes for which there is room
 abbrev pub within : ℕ → Option (List ℕ) → Option (List ℕ)
-within room none = none
-within room (some l) = pick (leb (length l) room) (some l) none
+within room None = None
+within room (Some l) = pick (leb (length l) room) (Some l) None
 
--- ---- as the code answers them
-abbrev pub count_of : Option (List ℕ) → Count
-count_of none = Bad
-count_of (some l) = Is (length l)
-
+-- the buffer with the bytes at its front, where there are any
 abbrev pub onto : List ℕ → Option (List ℕ) → List ℕ
-onto out none = out
-onto out (some l) = put out 0 l
+onto out None = out
+onto out (Some l) = put out 0 l

@@ -1,103 +1,50 @@
 // Numbers as they are written: decimal, with any number of leading zeros, and times with a minus before one below 0.
 ghost use Rattle.std.specs.Prelude.{◌≡◌, [], ◌∷◌, ◌≤◌};
-ghost use Rattle.words.specs.Numbers.{scan, decimal, up_to, number_of, byte_of, short_of, long_of, minus, time_in, moment_of};
-
-#[derive(Clone, Copy)]
-pub enum Number {
-    Bad,
-    Is(u64),
-}
-
-#[derive(Clone, Copy)]
-pub enum Byte {
-    Bad,
-    Is(u8),
-}
-
-#[derive(Clone, Copy)]
-pub enum Short {
-    Bad,
-    Is(u16),
-}
-
-#[derive(Clone, Copy)]
-pub enum Long {
-    Bad,
-    Is(u32),
-}
-
-#[derive(Clone, Copy)]
-pub enum Moment {
-    Bad,
-    Is(i64),
-}
+ghost use Rattle.words.specs.Numbers.{scan, decimal, up_to, minus, time_in};
 
 // The number with one digit more, where b is one and the number is at most max.
-fn more(n: u64, b: u8, max: u64) -> Number
-    ensures { result ≡ number_of (up_to max (scan n (b ∷ []))) }
+fn more(n: u64, b: u8, max: u64) -> Option<u64>
+    ensures { result ≡ up_to max (scan n (b ∷ [])) }
 {
-    if b < 48 {
-        return Number::Bad;
+    if b < b'0' || b'9' < b {
+        return None;
     }
-    if 57 < b {
-        return Number::Bad;
-    }
-    let d = (b - 48) as u64;
-    if max < d {
-        return Number::Bad;
-    }
-    if (max - d) / 10 < n {
-        return Number::Bad;
-    }
-    Number::Is(n * 10 + d)
+    let grown = n.checked_mul(10)?.checked_add(u64::from(b - b'0'))?;
+    if grown <= max { Some(grown) } else { None }
 }
 
 // The number that the word is, where it is one and at most max; no number of digits makes it wrap.
-pub fn number_in(s: &[u8], max: u64) -> Number
-    ensures { result ≡ number_of (up_to max (decimal s.now)) }
+#[tactic(auto, using(crate::proofs::Decimals::loop_stop))]
+pub fn number_in(s: &[u8], max: u64) -> Option<u64>
+    ensures { result ≡ up_to max (decimal s.now) }
 {
-    if s.len() == 0 {
-        return Number::Bad;
+    if s.is_empty() {
+        return None;
     }
-    let mut n: u64 = 0;
-    let mut i: usize = 0;
-    while i < s.len() {
-        match more(n, s[i], max) {
-            Number::Is(m) => {
-                n = m;
-                i += 1;
-            }
-            Number::Bad => return Number::Bad,
-        }
+    let mut n = 0;
+    for b in s {
+        n = more(n, *b, max)?;
     }
-    Number::Is(n)
+    Some(n)
 }
 
-pub fn byte_in(s: &[u8]) -> Byte
-    ensures { result ≡ byte_of (up_to 255 (decimal s.now)) }
+// The next three are not one generic function: only a trait, with an impl for each type, could name the bound that each clause has.
+pub fn byte_in(s: &[u8]) -> Option<u8>
+    ensures { result ≡ up_to 255 (decimal s.now) }
 {
-    match number_in(s, 255) {
-        Number::Is(n) => Byte::Is(n as u8),
-        Number::Bad => Byte::Bad,
-    }
+    number_in(s, 255).map(|n| n as u8)
 }
 
-pub fn short_in(s: &[u8]) -> Short
-    ensures { result ≡ short_of (up_to 65535 (decimal s.now)) }
+pub fn short_in(s: &[u8]) -> Option<u16>
+    ensures { result ≡ up_to 65535 (decimal s.now) }
 {
-    match number_in(s, 65535) {
-        Number::Is(n) => Short::Is(n as u16),
-        Number::Bad => Short::Bad,
-    }
+    number_in(s, 65535).map(|n| n as u16)
 }
 
-pub fn long_in(s: &[u8]) -> Long
-    ensures { result ≡ long_of (up_to 4294967295 (decimal s.now)) }
+pub fn long_in(s: &[u8]) -> Option<u32>
+    ensures { result ≡ up_to 4294967295 (decimal s.now) }
 {
-    match number_in(s, 4294967295) {
-        Number::Is(n) => Long::Is(n as u32),
-        Number::Bad => Long::Bad,
-    }
+    number_in(s, 4294967295).map(|n| n as u32)
 }
 
 // The time so many seconds before 0.
@@ -113,20 +60,11 @@ fn before_zero(n: u64) -> i64
 }
 
 // The time that the word is: signed 64 bits.
-pub fn time_in(s: &[u8]) -> Moment
-    ensures { result ≡ moment_of (time_in s.now) }
+pub fn time_in(s: &[u8]) -> Option<i64>
+    ensures { result ≡ time_in s.now }
 {
-    if s.len() == 0 {
-        return Moment::Bad;
+    if let Some(size) = s.strip_prefix(b"-") {
+        return number_in(size, 9223372036854775808).map(before_zero);
     }
-    if s[0] == 45 {
-        return match number_in(&s[1..], 9223372036854775808) {
-            Number::Is(n) => Moment::Is(before_zero(n)),
-            Number::Bad => Moment::Bad,
-        };
-    }
-    match number_in(s, 9223372036854775807) {
-        Number::Is(n) => Moment::Is(n as i64),
-        Number::Bad => Moment::Bad,
-    }
+    number_in(s, 9223372036854775807).map(|n| n as i64)
 }

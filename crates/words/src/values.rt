@@ -1,22 +1,15 @@
 // Values as they are written: `whole:N` and `reading:H`.
-ghost use Rattle.std.specs.Prelude.{◌≡◌, true, length};
+ghost use Rattle.std.specs.Prelude.{◌≡◌, true, length, option_map};
 ghost use Rattle.std.specs.Float.Ieee.{of_bits};
 ghost use Rattle.std.specs.Float.{binary32};
 ghost use Rattle.model.specs.Image.{number4};
+ghost use Rattle.tables.specs.View.{value_of};
 ghost use Rattle.words.specs.Hex.{all_hex, pairs};
-ghost use Rattle.words.specs.Numbers.{long_of};
-ghost use Rattle.words.specs.Values.{value_in, bits_in, valued_of};
+ghost use Rattle.words.specs.Values.{value_in, bits_in};
 
 use crate::hex::{all_digits, pair_at};
-use crate::numbers::{Long, long_in};
-use crate::starts_with;
+use crate::numbers::long_in;
 use tables::Value;
-
-#[derive(Clone, Copy)]
-pub enum Valued {
-    Bad,
-    Is(Value),
-}
 
 // The reading of that pattern; a NaN's bits make a NaN.
 fn reading_of(bits: u32) -> f32
@@ -34,39 +27,29 @@ fn four_pairs(s: &[u8]) -> u32
     requires { (length s.now ≡ 8) × (all_hex s.now ≡ true) }
     ensures { result ≡ number4 0 (pairs s.now) }
 {
-    let a = pair_at(s, 0) as u32;
-    let b = pair_at(s, 2) as u32;
-    let c = pair_at(s, 4) as u32;
-    let d = pair_at(s, 6) as u32;
-    (a * 256 + b) * 65536 + (c * 256 + d)
+    let a = pair_at(s, 0);
+    let b = pair_at(s, 2);
+    let c = pair_at(s, 4);
+    let d = pair_at(s, 6);
+    u32::from_be_bytes([a, b, c, d])
 }
 
-fn bits_in(s: &[u8]) -> Long
-    ensures { result ≡ long_of (bits_in s.now) }
+fn bits_in(s: &[u8]) -> Option<u32>
+    ensures { result ≡ bits_in s.now }
 {
-    if s.len() != 8 {
-        return Long::Bad;
+    if s.len() == 8 && all_digits(s) {
+        Some(four_pairs(s))
+    } else {
+        None
     }
-    if !all_digits(s) {
-        return Long::Bad;
-    }
-    Long::Is(four_pairs(s))
 }
 
-pub fn value_in(s: &[u8]) -> Valued
-    ensures { result ≡ valued_of (value_in s.now) }
+pub fn value_in(s: &[u8]) -> Option<Value>
+    ensures { result ≡ option_map value_of (value_in s.now) }
 {
-    if starts_with(s, b"whole:") {
-        return match long_in(&s[6..]) {
-            Long::Is(n) => Valued::Is(Value::Whole(n)),
-            Long::Bad => Valued::Bad,
-        };
+    if let Some(n) = s.strip_prefix(b"whole:") {
+        return long_in(n).map(Value::Whole);
     }
-    if starts_with(s, b"reading:") {
-        return match bits_in(&s[8..]) {
-            Long::Is(n) => Valued::Is(Value::Reading(reading_of(n))),
-            Long::Bad => Valued::Bad,
-        };
-    }
-    Valued::Bad
+    let h = s.strip_prefix(b"reading:")?;
+    bits_in(h).map(|bits| Value::Reading(reading_of(bits)))
 }

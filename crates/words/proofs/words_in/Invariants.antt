@@ -1,11 +1,11 @@
--- `words::words_in` is safe and ends: each turn begins behind the one before. Assumes nothing.
-use mathlib.Core.Path.{◌≡◌}
-use Prim.Native.Nat.{◌-◌, ◌≤◌}
-use lib.ListN.{length}
+-- `words::words_in` meets its contract. The loop's invariant: the words so far stand in the array. Assumes nothing.
+use Rattle.std.proofs.Common.{◌≡◌, ◌≤◌, length, take}
 use Rattle.words.proofs.words_in.Given as goal
 
-abbrev pub invariant-loop-n : goal.invariant-loop-n
-invariant-loop-n l = (l.from ≤ length l.line) × (l.n ≤ 18) × (l.ws.count ≡ l.n)
-
-abbrev pub decreases-loop-n : goal.decreases-loop-n
-decreases-loop-n l = length l.line - l.from
+abbrev pub invariant-loop-word : goal.invariant-loop-word
+invariant-loop-word l = record {
+  room : length l.ws.at ≡ 18;
+  few : l.ws.count ≤ 18;
+  each : l.ws.count ≡ length l.yielded;
+  held : take l.ws.count l.ws.at ≡ l.yielded;
+}

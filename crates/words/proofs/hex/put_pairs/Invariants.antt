@@ -1,13 +1,7 @@
--- `words::hex::put_pairs` meets its contract. The loop's invariant: what it must leave is what it has, with the pairs left from i on. Assumes nothing.
-use mathlib.Core.Path.{◌≡◌}
-use Prim.Native.Nat.{◌-◌, ◌*◌, ◌≤◌}
-use lib.ListN.{length, drop}
-use Rattle.laws.specs.Slots.{put}
-use Rattle.words.specs.Hex.{pairs}
+-- `words::hex::put_pairs` meets its contract. The loop's invariant: the bytes so far are those of the pairs. Assumes nothing.
+use Rattle.std.proofs.Common.{◌≡◌, ℕ, ◌*◌, ◌<◌, get_or}
+use Rattle.words.specs.Hex.{pair_at}
 use Rattle.words.proofs.hex.put_pairs.Given as goal
 
 abbrev pub invariant-loop-i : goal.invariant-loop-i
-invariant-loop-i l = (l.i ≤ l.n) × (length l.out ≡ length l.initial.out) × (put l.initial.out 0 (pairs l.s) ≡ put l.out l.i (pairs (drop (2 * l.i) l.s)))
-
-abbrev pub decreases-loop-i : goal.decreases-loop-i
-decreases-loop-i l = l.n - l.i
+invariant-loop-i l = (k : ℕ) → k < l.i → get_or l.out k 0 ≡ pair_at (2 * k) l.s

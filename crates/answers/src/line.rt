@@ -1,0 +1,49 @@
+// A line of text that is put together before it is written.
+ghost use Rattle.std.specs.Prelude.{◌≤◌};
+
+use std::fmt;
+use std::fmt::Write;
+
+// The longest answer is that of a log of 32768 bytes, in hex.
+const ROOM: usize = 70000;
+
+// What finds no room is left out.
+#[derive(Drop)]
+pub struct Line {
+    bytes: [u8; 70000],
+    len: usize,
+    ghost inside: { len ≤ 70000 },
+}
+
+impl Line {
+    pub fn new() -> Line {
+        Line {
+            bytes: [0; 70000],
+            len: 0,
+        }
+    }
+
+    pub fn clear(&mut self) {
+        self.len = 0;
+    }
+
+    pub fn as_bytes(&self) -> &[u8] {
+        &self.bytes[..self.len]
+    }
+
+    fn push(&mut self, b: u8) {
+        if self.len < ROOM {
+            self.bytes[self.len] = b;
+            self.len += 1;
+        }
+    }
+}
+
+impl Write for Line {
+    fn write_str(&mut self, s: &str) -> fmt::Result {
+        for b in s.as_bytes() {
+            self.push(*b);
+        }
+        Ok(())
+    }
+}
