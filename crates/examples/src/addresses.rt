@@ -98,10 +98,7 @@ fn told(rt: &impl Print, p: Path, r: Path)
 fn at(len: u8, steps: [u8; 6]) -> Path
     ensures { PathSound result }
 {
-    let p = RawPath {
-        len: len,
-        steps: steps,
-    };
+    let p = RawPath { len, steps };
     if !path::is_valid(p) {
         return path::root();
     }
@@ -112,11 +109,8 @@ fn at(len: u8, steps: [u8; 6]) -> Path
 fn address(rt: &impl Print, p: Path)
     requires { PathSound p }
 {
-    let n = path::size(p);
-    let mut i: usize = 0;
-    while i < n {
+    for i in 0..path::size(p) {
         step(rt, i, path::step_of(p, i));
-        i += 1;
     }
 }
 

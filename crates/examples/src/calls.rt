@@ -35,16 +35,14 @@ pub fn after(s: Session, r: Request) -> Session
     requires { SessionSound s }
     ensures { SessionSound result }
 {
-    let o = asked(s, r);
-    o.session
+    asked(s, r).session
 }
 
 // What a request is answered.
 pub fn answer(s: Session, r: Request) -> Answer
     requires { SessionSound s }
 {
-    let o = asked(s, r);
-    o.answer
+    asked(s, r).answer
 }
 
 // The words before what a request is answered, and that.
@@ -75,14 +73,11 @@ pub fn other() -> Subject {
 }
 
 pub fn at(len: u8, steps: [u8; 6]) -> RawPath {
-    RawPath {
-        len: len,
-        steps: steps,
-    }
+    RawPath { len, steps }
 }
 
 pub fn top() -> RawPath {
-    at(0, [0, 0, 0, 0, 0, 0])
+    at(0, [0; 6])
 }
 
 // Child k of the root.
@@ -99,12 +94,12 @@ pub fn request(number: u8, who: Subject, path: RawPath) -> Request {
 
 pub fn on_permission(number: u8, who: Subject, path: RawPath, g: Grant) -> Request {
     Request {
-        number: number,
+        number,
         dossier: 1,
         role: who.role,
         user: who.user,
         time: who.time,
-        path: path,
+        path,
         name: 0,
         value: Value::Whole(0),
         permission: g,
@@ -125,11 +120,11 @@ pub fn add(path: RawPath) -> Request {
 pub fn during(role: u8, action: u8, messages: u32) -> Grant {
     let span = Span { first: 0, last: 10 };
     Grant {
-        role: role,
-        action: action,
+        role,
+        action,
         user: 0,
-        span: span,
-        messages: messages,
+        span,
+        messages,
         agreements: 0,
     }
 }

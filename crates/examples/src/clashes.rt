@@ -48,8 +48,8 @@ fn read(user: u8, span: Span) -> Grant {
     Grant {
         role: 1,
         action: 1,
-        user: user,
-        span: span,
+        user,
+        span,
         messages: 0,
         agreements: 0,
     }

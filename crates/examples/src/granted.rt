@@ -8,35 +8,24 @@ use crate::show::text;
 use grants::Subject;
 use state::Session;
 
-// A time, in a struct.
-#[derive(Clone, Copy)]
-struct Time {
-    seconds: i64,
-}
-
 // ---- example 6
 
 pub fn example6(rt: &impl Print) {
     let s = permitted(fresh(), 1);
-    read(
-        rt,
-        b"6. Permission 0..10: time -1 ",
-        s,
-        Time { seconds: -1 },
-    );
-    read(rt, b", 0 ", s, Time { seconds: 0 });
-    read(rt, b", 10 ", s, Time { seconds: 10 });
-    read(rt, b", 11 ", s, Time { seconds: 11 });
+    read(rt, b"6. Permission 0..10: time -1 ", s, -1);
+    read(rt, b", 0 ", s, 0);
+    read(rt, b", 10 ", s, 10);
+    read(rt, b", 11 ", s, 11);
     text(rt, b".\n");
 }
 
-fn read(rt: &impl Print, before: &[u8], s: Session, t: Time)
+fn read(rt: &impl Print, before: &[u8], s: Session, time: i64)
     requires { SessionSound s }
 {
     let who = Subject {
         role: 2,
         user: 3,
-        time: t.seconds,
+        time,
     };
     told(rt, before, s, request(1, who, top()));
 }

@@ -26,10 +26,8 @@ fn chain(s: Session) -> Session
     ensures { SessionSound result }
 {
     let mut t = s;
-    let mut n: u8 = 1;
-    while n < 5 {
+    for n in 1..5 {
         t = after(t, add(at(n, [1, 1, 1, 1, 0, 0])));
-        n += 1;
     }
     t
 }
@@ -65,10 +63,8 @@ fn crowded(s: Session) -> Session
     ensures { SessionSound result }
 {
     let mut t = s;
-    let mut n: u8 = 2;
-    while n < 64 {
+    for n in 2..64 {
         t = after(t, add(seat(n)));
-        n += 1;
     }
     t
 }
@@ -87,9 +83,7 @@ fn nodes(rt: &impl Print, s: Session)
 }
 
 fn held_nodes(s: Session) -> usize {
-    let d = s.one;
-    let t = d.nodes;
-    t.count
+    s.one.nodes.count
 }
 
 // A read of the root by user 3, which logs one message.
@@ -103,10 +97,8 @@ fn busy(s: Session) -> Session
     ensures { SessionSound result }
 {
     let mut t = s;
-    let mut n: u8 = 0;
-    while n < 255 {
+    for _ in 0..255 {
         t = after(t, noted());
-        n += 1;
     }
     t
 }
@@ -125,8 +117,7 @@ fn entries(rt: &impl Print, s: Session)
 }
 
 fn held_entries(s: Session) -> usize {
-    let l = s.log;
-    l.count
+    s.log.count
 }
 
 // The number after n, which is at most the log's bound.

@@ -10,11 +10,7 @@ pub fn number(rt: &impl Print, n: u64) {
 }
 
 pub fn either(rt: &impl Print, yes: bool, a: &[u8], b: &[u8]) {
-    if yes {
-        text(rt, a);
-        return;
-    }
-    text(rt, b);
+    text(rt, if yes { a } else { b });
 }
 
 // The words before an answer, and then its refusal number, or the words for one that is no refusal.
@@ -62,16 +58,7 @@ pub fn image(rt: &impl Print, a: Answer, bytes: &[u8]) {
 }
 
 fn hex(rt: &impl Print, n: usize, bytes: &[u8]) {
-    let mut i: usize = 0;
-    while i < bytes.len() {
-        if n <= i {
-            return;
-        }
-        byte(rt, bytes[i]);
-        i += 1;
+    for b in bytes.iter().take(n) {
+        let _ = print!(rt; "{b:02x}");
     }
-}
-
-fn byte(rt: &impl Print, b: u8) {
-    let _ = print!(rt; "{b:02x}");
 }

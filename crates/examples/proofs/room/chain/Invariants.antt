@@ -1,10 +1,6 @@
 -- `examples::room::chain` meets its contract: every request leaves a sound session. Assumes nothing.
-use Prim.Native.Nat.{◌≤◌, ◌-◌}
 use Rattle.state.specs.View.{SessionSound}
 use Rattle.examples.proofs.room.chain.Given as goal
 
 abbrev pub invariant-loop-n : goal.invariant-loop-n
-invariant-loop-n l = (l.n ≤ 5) × SessionSound l.t
-
-abbrev pub decreases-loop-n : goal.decreases-loop-n
-decreases-loop-n l = 5 - l.n
+invariant-loop-n l = SessionSound l.t
