@@ -70,13 +70,13 @@ fn raised(p: Path, q: Path) -> Path
 fn deleted(rt: &impl Print, p: Path, q: Path)
     requires { PathSound p × PathSound q }
 {
-    let m = path::path_down(p, q);
-    if !m.there {
-        address(rt, p);
-        text(rt, b" goes");
-        return;
+    match path::path_down(p, q) {
+        Some(r) => told(rt, p, r),
+        None => {
+            address(rt, p);
+            text(rt, b" goes");
+        }
     }
-    told(rt, p, m.path);
 }
 
 // Writes that p stays, or the path that it becomes.

@@ -39,9 +39,7 @@ fn left_of(p: Path) -> Path
     requires { PathSound p × (1 < last (steps p)) }
     ensures { result ≡ path_of (images.left (steps p)) }
 {
-    let s = last_step(p) - 1;
-    let m = child_of(parent_of(p), s);
-    m.path
+    child_of(parent_of(p), last_step(p) - 1).unwrap()
 }
 
 // Whether a node at p fits behind those of the first n keys.

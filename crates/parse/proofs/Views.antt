@@ -7,7 +7,7 @@ use mathlib.Core.List.{List}
 use Prim.Native.Nat.{ℕ}
 use lib.Dec.{T, eqb, eqb→eq, eqb_refl}
 use lib.ListN.{length, take, drop, get_or}
-use Rattle.std.proofs.Common.{Option, None}
+use Rattle.std.proofs.Common.{Option, None, Some}
 use Rattle.laws.specs.Slots.{pick}
 use Rattle.path.specs.Address.{Address}
 use Rattle.path.specs.Bytes.{read_steps}
@@ -15,7 +15,7 @@ use Rattle.path.specs.View.{path_of, moved_of}
 use Rattle.path.proofs.Moves.{Test, holds, fails, test}
 use Rattle.path.proofs.Structs.{no}
 use Rattle.path.specs.declared.Path.{Path}
-use Rattle.path.specs.declared.Moved.{Moved}
+use Rattle.std.proofs.lemmas.Option.{none-some, same_Some}
 use Rattle.model.specs.Things as things
 use Rattle.model.specs.Image as images
 use Rattle.parse.specs.declared.Record.{Record}
@@ -46,46 +46,46 @@ value_view p name owner (some v) = refl
 
 -- where the path was read, and where it is none
 module _ (f : Address → math.Option images.Record) (g : Path → Option Record) (same : (p : Address) → record_of (f p) ≡ g (path_of p)) where
-  there_view : (o : math.Option Address) (m : Moved) → m ≡ moved_of o → m.there ≡ true → g m.path ≡ record_of (and_then o f)
-  there_view none m e h = no (sym h ∙ ap (λ (n : Moved). n.there) e)
-  there_view (some p) m e h = ap (λ (n : Moved). g n.path) e ∙ sym (same p)
+  there_view : (o : math.Option Address) {r : Path} → Some r ≡ moved_of o → g r ≡ record_of (and_then o f)
+  there_view none e = absurd (none-some _ (sym e))
+  there_view (some p) e = ap g (same_Some _ _ e) ∙ sym (same p)
 
-gone_view : (f : Address → math.Option images.Record) (o : math.Option Address) (m : Moved) → m ≡ moved_of o → m.there ≡ false → and_then o f ≡ none
-gone_view f none m e h = refl
-gone_view f (some p) m e h = no (ap (λ (n : Moved). n.there) (sym e) ∙ h)
+gone_view : (f : Address → math.Option images.Record) (o : math.Option Address) → None ≡ moved_of o → and_then o f ≡ none
+gone_view f none e = refl
+gone_view f (some p) e = absurd (none-some _ e)
 
-module _ (b : List ℕ) (full : length b ≡ 40) (bytes : Bytes b) (m : Moved) (read : m ≡ moved_of (read_steps (take 7 (drop 1 b)))) where
-  module _ (here : m.there ≡ true) where
-    pub node_view : get_or b 0 0 ≡ 1 → node_from m.path b ≡ record_of (images.decode b)
+module _ (b : List ℕ) (full : length b ≡ 40) (bytes : Bytes b) where
+  module _ {r : Path} (read : Some r ≡ moved_of (read_steps (take 7 (drop 1 b)))) where
+    pub node_view : get_or b 0 0 ≡ 1 → node_from r b ≡ record_of (images.decode b)
     node_view e =
         let f : Address → math.Option images.Record = λ p. pick (node_good b) (some (images.node_record (p, get_or b 10 0))) none in
-        there_view f (λ p. node_from p b) (λ p. record_pick (node_good b) (some (images.node_record (p, get_or b 10 0)))) (read_steps (take 7 (drop 1 b))) m read here
+        there_view f (λ p. node_from p b) (λ p. record_pick (node_good b) (some (images.node_record (p, get_or b 10 0)))) (read_steps (take 7 (drop 1 b))) read
         ∙ ap record_of (sym (decode_node b full e))
 
-    pub attribute_view : get_or b 0 0 ≡ 2 → attribute_from m.path b ≡ record_of (images.decode b)
+    pub attribute_view : get_or b 0 0 ≡ 2 → attribute_from r b ≡ record_of (images.decode b)
     attribute_view e =
         let o = value_from (get_or b 14 0) (images.number4 16 b) in
         let f : Address → math.Option images.Record = λ p. and_then o (λ v. some (images.attribute_record (p, record { name = images.number2 8 b; owner = get_or b 10 0; value = v }))) in
         there_view (λ p. pick (attribute_good b) (f p) none) (λ p. attribute_from p b)
         (λ p. record_pick (attribute_good b) (f p) ∙ ap (λ (r : Option Record). pick (attribute_good b) r None) (value_view p (images.number2 8 b) (get_or b 10 0) o))
-        (read_steps (take 7 (drop 1 b))) m read here
+        (read_steps (take 7 (drop 1 b))) read
         ∙ ap record_of (sym (decode_attribute b full bytes e))
 
-    pub permission_view : get_or b 0 0 ≡ 3 → permission_from m.path b ≡ record_of (images.decode b)
+    pub permission_view : get_or b 0 0 ≡ 3 → permission_from r b ≡ record_of (images.decode b)
     permission_view e =
         let f : Address → math.Option images.Record = λ p. some (images.permission_record (p, (images.number2 8 b, images.read_permission b))) in
-        there_view (λ p. pick (permission_good b) (f p) none) (λ p. permission_from p b) (λ p. record_pick (permission_good b) (f p)) (read_steps (take 7 (drop 1 b))) m read here
+        there_view (λ p. pick (permission_good b) (f p) none) (λ p. permission_from p b) (λ p. record_pick (permission_good b) (f p)) (read_steps (take 7 (drop 1 b))) read
         ∙ ap record_of (sym (decode_permission b full bytes e))
 
   pub bad_view : (get_or b 0 0 ≡ 1 → ⊥) → (get_or b 0 0 ≡ 2 → ⊥) → (get_or b 0 0 ≡ 3 → ⊥) → None ≡ record_of (images.decode b)
   bad_view p q n = ap record_of (sym (decode_bad b p q n))
 
   -- no path, so no record, whatever the kind
-  pub pathless_view : m.there ≡ false → None ≡ record_of (images.decode b)
+  pub pathless_view : None ≡ moved_of (read_steps (take 7 (drop 1 b))) → None ≡ record_of (images.decode b)
   pathless_view h = ap record_of (sym (go (test (eqb (get_or b 0 0) 1)) (test (eqb (get_or b 0 0) 2)) (test (eqb (get_or b 0 0) 3))))
     where
       gone : (f : Address → math.Option images.Record) → and_then (read_steps (take 7 (drop 1 b))) f ≡ none
-      gone f = gone_view f (read_steps (take 7 (drop 1 b))) m read h
+      gone f = gone_view f (read_steps (take 7 (drop 1 b))) h
 
       go : Test (eqb (get_or b 0 0) 1) → Test (eqb (get_or b 0 0) 2) → Test (eqb (get_or b 0 0) 3) → images.decode b ≡ none
       go (holds t) v w = decode_node b full (eqb→eq (get_or b 0 0) 1 t) ∙ gone _

@@ -152,11 +152,7 @@ fn read_permission(b: &[u8; 40], path: Path) -> Option<Record>
 pub fn decoded(b: &[u8; 40]) -> Option<Record>
     ensures { result ≡ record_of (images.decode b.now) }
 {
-    let at = path_at(b, 1);
-    if !at.there {
-        return None;
-    }
-    let path = at.path;
+    let path = path_at(b, 1)?;
     match b[0] {
         1 => read_node(b, path),
         2 => read_attribute(b, path),
