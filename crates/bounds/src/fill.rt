@@ -7,8 +7,7 @@ use grants::{clash, clash_in};
 use lookups::{attribute_in, owner_in};
 use path::{Path, RawPath};
 use tables::{
-    Attribute, Attributes, Dossier, Grant, Node, Nodes, Permission, Permissions,
-    Span, Value,
+    Attribute, Attributes, Dossier, Grant, Node, Nodes, Permission, Permissions, Span, Value,
 };
 
 // ---- paths

@@ -22,13 +22,6 @@ use Rattle.model.specs.Moves.{carry, carried, at, head, one_step, attribute_in, 
 use Rattle.model.specs.Image.{there}
 
 -- ---- whether a row gives anything
-pub at_there : {P : Type 0} (p : Address) (r : Row P) → same r.0 p ≡ there (at p r)
-at_there p r = go (same r.0 p)
-  where
-    go : (b : Bool) → b ≡ there (pick b (some r.1) none)
-    go true = refl
-    go false = refl
-
 pub off_there : {P : Type 0} (q : Address) (r : Row P) → under q r.0 ≡ there (carry (off q) r)
 off_there q r = go (under q r.0) refl
   where
@@ -46,9 +39,6 @@ module _ {A B : Type 0} (f : A → Option B) (l : List A) where
   count_begin = record { few = omega arith; rest = omega arith }
 
   module _ (i k : ℕ) (c : Counts f l i k) where
-    pub count_done : drop i l ≡ [] → k ≡ length (move f l)
-    count_done e = let r = ap (λ m. k + length (move f m)) (sym e) ∙ c.rest in omega arith
-
     module _ (x : A) (e : drop i l ≡ x ∷ drop (i + 1) l) where
       seen : k + length (push (f x) (move f (drop (i + 1) l))) ≡ length (move f l)
       seen = ap (λ m. k + length (move f m)) (sym e) ∙ c.rest

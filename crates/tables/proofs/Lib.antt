@@ -4,5 +4,4 @@ pub mod Asked
 pub mod Parts
 pub mod Tables
 pub mod Places
-pub mod Walk
 pub mod Together
