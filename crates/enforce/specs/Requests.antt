@@ -1,5 +1,5 @@
 -- A request by what there is to paste, on the structs; what judging makes of it, and what request 17's image is.
-use Rattle.std.specs.Prelude.{Bool, List, [], ◌∷◌, ℕ, T}
+use Rattle.std.specs.Prelude.{Bool, List, [], ◌∷◌, ℕ, T, Result, Ok, Err}
 use Rattle.model.specs.Things as things
 use Rattle.model.specs.Things.{State}
 use Rattle.model.specs.Refusals as refusals
@@ -15,7 +15,7 @@ use Rattle.state.specs.declared.Request.{Request}
 use Rattle.state.specs.declared.Stepped.{Stepped}
 use Rattle.state.specs.declared.Outcome.TheVariants.{BadRecord}
 use Rattle.state.specs.View.{view_request, view_signatures, view_session, session_of, plain_of, answer_of}
-use Rattle.image.specs.declared.Loaded.{Loaded}
+use Rattle.image.specs.declared.BadRecord as image
 use Rattle.judge.specs.declared.Judged.{Judged}
 use Rattle.judge.specs.declared.Judged.TheVariants.{Refused, Allowed}
 use Rattle.judge.specs.View.{standing_of, judged_of}
@@ -54,5 +54,6 @@ weighed_of d c rows log r =
     verdict_of r (judged_of (refusals.refusal q f (run.cached (view_clipboard c)) (standing_of q (view_signatures rows) log.count)) (refusals.granted q f))
 
 -- ---- request 17's image: a branch, or the answer to a bad one
-abbrev pub laden_of : Request → Loaded → Laden
-laden_of r l = record { good = l.good; request = r; answer = plain_of (BadRecord l.«record»); clipboard = record { kind = 1; held = l.dossier } }
+abbrev pub laden_of : Request → Result Dossier image.BadRecord → Laden
+laden_of r (Ok d) = record { request = r; branch = Ok (record { kind = 1; held = d }) }
+laden_of r (Err k) = record { request = r; branch = Err (plain_of (BadRecord k.number)) }

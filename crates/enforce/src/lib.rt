@@ -21,13 +21,11 @@ use refusals::{Cache, cached};
 use state::{Agreements, Answer, Log, Outcome, Request, plain};
 use tables::{Clipboard, Dossier};
 
-// Request 17's image as a branch; or a bad one, and the answer to it.
+// Request 17, with its image as a branch or the answer to a bad one.
 #[derive(Clone, Copy)]
 pub struct Laden {
-    pub good: bool,
     pub request: Request,
-    pub answer: Answer,
-    pub clipboard: Clipboard,
+    pub branch: Result<Clipboard, Answer>,
 }
 
 // ---- a request, weighed
@@ -115,16 +113,9 @@ pub fn stays(r: Request) -> bool
 pub fn as_branch(r: Request, image: &[u8]) -> Laden
     ensures { result ≡ laden_of r (loaded_of (load_added r.user image.now)) }
 {
-    let l = load_branch(image, r.user);
-    let held = l.dossier;
-    let c = Clipboard {
-        kind: 1,
-        held: held,
+    let branch = match load_branch(image, r.user) {
+        Ok(held) => Ok(Clipboard { kind: 1, held }),
+        Err(bad) => Err(plain(Outcome::BadRecord(bad.number))),
     };
-    Laden {
-        good: l.good,
-        request: r,
-        answer: plain(Outcome::BadRecord(l.record)),
-        clipboard: c,
-    }
+    Laden { request: r, branch }
 }

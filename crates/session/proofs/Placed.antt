@@ -6,8 +6,9 @@ use mathlib.Core.List.{List}
 use Prim.Native.Nat.{ℕ}
 use lib.Dec.{T, eqb, eqb→eq, T_not}
 use mir.Facts.{and_yes}
+use Rattle.std.proofs.Common.{Result, Ok, Err}
 use Rattle.laws.specs.Slots.{pick}
-use Rattle.path.proofs.Moves.{pick_yes, pick_no}
+use Rattle.path.proofs.Structs.{no}
 use Rattle.model.specs.Things as things
 use Rattle.model.specs.Things.{State}
 use Rattle.model.specs.Refusals.{Request, bad_operand, granted, provisions}
@@ -16,10 +17,11 @@ use Rattle.model.specs.Run as run
 use Rattle.tables.specs.declared.Dossier.{Dossier}
 use Rattle.tables.specs.declared.Clipboard.{Clipboard}
 use Rattle.tables.specs.View.{view_dossier, view_clipboard, clipboard_of, ClipboardSound}
-use Rattle.image.specs.declared.Loaded.{Loaded}
+use Rattle.image.specs.declared.BadRecord.{BadRecord}
 use Rattle.image.specs.View.{loaded_of}
 use Rattle.state.specs.declared.Session.{Session}
 use Rattle.state.specs.declared.Request as structs
+use Rattle.state.specs.declared.Answer.{Answer}
 use Rattle.state.specs.declared.Stepped.{Stepped}
 use Rattle.state.specs.View.{view_request, view_session, session_of, SessionSound}
 use Rattle.state.specs.Calls.{stepped_of}
@@ -32,7 +34,7 @@ use Rattle.deeds.proofs.Left.{clipboard_same}
 use Rattle.enforce.specs.declared.Laden.{Laden}
 use Rattle.enforce.specs.Requests.{left_of, Pastes, from_of, with_of, laden_of}
 use Rattle.enforce.proofs.Placing.{bad_image, good_image, looked, not_looked, adder}
-use Rattle.session.specs.Requests.{Carries, laden_step}
+use Rattle.session.specs.Requests.{Carries, branch_step, laden_step}
 
 -- ---- the number of a request that looks at its image
 seventeen : (r : Request) → T (run.places r) → r.number ≡ 17
@@ -82,29 +84,22 @@ module _ {s : Session} (h : SessionSound s) (r : Request) (n : r.number ≡ 17) 
   pub swapped : ((from_of lying r seen).answer ≡ (from_of s r seen).answer) × (clipped_in s.clipboard (from_of lying r seen).session ≡ (from_of s r seen).session)
   swapped = both (judged (view_session s) r seen)
 
-is_true : (b : Bool) → T b → b ≡ true
-is_true true t = refl
-is_true false t = absurd t
-
 -- a sound session with another sound clipboard is sound
 clipped_sound : {s : Session} {c : Clipboard} → SessionSound s → ClipboardSound c → SessionSound (clipped_in c s)
 clipped_sound h k = record { model = run.with_clipboard k.model h.model; same = λ i. clipped_in (k.same i) (h.same i); fits = record { one = h.fits.one; two = h.fits.two; clipboard = k.fits; rows = h.fits.rows; agreements = h.fits.agreements; entries = h.fits.entries; log = h.fits.log } }
 
 -- ---- request 17's image, laden
-module _ (s : Session) (l : Laden) (w : Carries s l) where
+module _ (s : Session) (l : Laden) (w : Carries s l) {c : Clipboard} (e : l.branch ≡ Ok c) where
   abbrev r : Request
   r = view_request l.request
 
-  pub laid_out_lem : T l.good → SessionSound (clipped_in l.clipboard s) × Pastes r (view_clipboard l.clipboard)
-  laid_out_lem t = (clipped_sound w.sound (w.held t).0, λ p. (w.held t).1)
+  pub laid_out_lem : SessionSound (clipped_in c s) × Pastes r (view_clipboard c)
+  laid_out_lem = (clipped_sound w.sound (w.held c e).0, λ p. (w.held c e).1)
 
-  pub laden_left : T l.good
-      → ((from_of (clipped_in l.clipboard s) r (view_clipboard l.clipboard)).answer ≡ (laden_step s l).answer)
-      × (clipped_in s.clipboard (from_of (clipped_in l.clipboard s) r (view_clipboard l.clipboard)).session ≡ (laden_step s l).session)
-  laden_left t =
-      let e = sym (pick_yes l.good (from_of s r (view_clipboard l.clipboard)) (record { session = s; answer = l.answer }) t) in
-      let q = swapped w.sound r (seventeen r w.places) l.clipboard in
-      (q.0 ∙ ap (λ (o : Stepped). o.answer) e, q.1 ∙ ap (λ (o : Stepped). o.session) e)
+  pub laden_left : ((from_of (clipped_in c s) r (view_clipboard c)).answer ≡ (laden_step s l).answer) × (clipped_in s.clipboard (from_of (clipped_in c s) r (view_clipboard c)).session ≡ (laden_step s l).session)
+  laden_left =
+      let q = swapped w.sound r (seventeen r w.places) c in
+      (q.0 ∙ ap (λ (x : Result Clipboard Answer). (branch_step s r x).answer) (sym e), q.1 ∙ ap (λ (x : Result Clipboard Answer). (branch_step s r x).session) (sym e))
 
 -- ---- the whole request
 module _ (s : Session) (q : structs.Request) (image : List ℕ) (h : SessionSound s) where
@@ -120,33 +115,43 @@ module _ (s : Session) (q : structs.Request) (image : List ℕ) (h : SessionSoun
   pub stay_left : T (not (run.places asked)) → ((from_of s asked (view_clipboard s.clipboard)).answer ≡ (stepped_of s (run.request asked image)).answer) × ((from_of s asked (view_clipboard s.clipboard)).session ≡ (stepped_of s (run.request asked image)).session)
   stay_left t = let e = not_looked s asked image (places_not t) in (ap (λ (o : Stepped). o.answer) e, ap (λ (o : Stepped). o.session) e)
 
-  abbrev loaded : Loaded
+  abbrev loaded : Result Dossier BadRecord
   loaded = loaded_of (load_added q.user image)
 
   placing : T (not (not (run.places asked))) → T (run.places asked)
   placing t = not_not (run.places asked) (T_not (not (run.places asked)) t)
 
-  pub carries : T (not (not (run.places asked))) → Carries s (laden_of q loaded)
-  carries t =
-      let p = placing t in
-      record {
-        sound = h;
-        places = p;
-        held = λ g. let w = (good_image q.user (adder asked (operands asked p)) image refl (is_true loaded.good g)).1 (laden_of q loaded).clipboard (branch_is g) in (w.sound, w.branch);
-      }
-    where
-      branch_is : T loaded.good → (laden_of q loaded).clipboard ≡ clipboard_of (things.branch (view_dossier loaded.dossier))
-      branch_is g = ap (λ (d : Dossier). record { kind = 1; held = d }) (dossier_same (good_image q.user (adder asked (operands asked (placing t))) image refl (is_true loaded.good g)).0)
+  abbrev branch_in : Clipboard → Result Clipboard Answer → Clipboard
+  branch_in c (Ok x) = x
+  branch_in c (Err a) = c
 
-  pub carries_left : T (not (not (run.places asked))) → ((laden_step s (laden_of q loaded)).answer ≡ (stepped_of s (run.request asked image)).answer) × ((laden_step s (laden_of q loaded)).session ≡ (stepped_of s (run.request asked image)).session)
-  carries_left t = let e = go loaded.good refl ∙ looked s asked image (placing t) in (ap (λ (o : Stepped). o.answer) e, ap (λ (o : Stepped). o.session) e)
-    where
-      go : (b : Bool) → loaded.good ≡ b → laden_step s (laden_of q loaded) ≡ with_of s asked (run.as_branch (load_added q.user image))
-      go true e =
-          let g = subst T (sym e) tt in
-          let w = (good_image q.user (adder asked (operands asked (placing t))) image refl e).1 (laden_of q loaded).clipboard (branch_is g) in
-          pick_yes loaded.good _ _ g ∙ ap (with_of s asked) w.seen
-        where
-          branch_is : T loaded.good → (laden_of q loaded).clipboard ≡ clipboard_of (things.branch (view_dossier loaded.dossier))
-          branch_is g = ap (λ (d : Dossier). record { kind = 1; held = d }) (dossier_same (good_image q.user (adder asked (operands asked (placing t))) image refl e).0)
-      go false e = pick_no loaded.good _ _ (subst T e) ∙ bad_image q.user (adder asked (operands asked (placing t))) image refl s asked h e
+  abbrev is_branch : Result Clipboard Answer → Bool
+  is_branch (Ok x) = true
+  is_branch (Err a) = false
+
+  module _ (t : T (not (not (run.places asked)))) where
+    branch_is : {d : Dossier} → Ok d ≡ loaded → record { kind = 1; held = d } ≡ clipboard_of (things.branch (view_dossier d))
+    branch_is e = ap (λ (x : Dossier). record { kind = 1; held = x }) (dossier_same (good_image q.user (adder asked (operands asked (placing t))) image e).0)
+
+    pub carries : Carries s (laden_of q loaded)
+    carries = record { sound = h; places = places_as loaded; held = go loaded refl }
+      where
+        places_as : (o : Result Dossier BadRecord) → T (run.places (view_request (laden_of q o).request))
+        places_as (Ok d) = placing t
+        places_as (Err k) = placing t
+
+        go : (o : Result Dossier BadRecord) → o ≡ loaded → (c : Clipboard) → (laden_of q o).branch ≡ Ok c → ClipboardSound c × T (run.cached (view_clipboard c)).branch
+        go (Ok d) e c g =
+            let z : c ≡ record { kind = 1; held = d } = sym (ap (branch_in c) g) in
+            let w = (good_image q.user (adder asked (operands asked (placing t))) image e).1 c (z ∙ branch_is e) in
+            (w.sound, w.branch)
+        go (Err k) e c g = no (sym (ap is_branch g))
+
+    pub carries_left : ((laden_step s (laden_of q loaded)).answer ≡ (stepped_of s (run.request asked image)).answer) × ((laden_step s (laden_of q loaded)).session ≡ (stepped_of s (run.request asked image)).session)
+    carries_left = let e = go loaded refl ∙ looked s asked image (placing t) in (ap (λ (o : Stepped). o.answer) e, ap (λ (o : Stepped). o.session) e)
+      where
+        go : (o : Result Dossier BadRecord) → o ≡ loaded → laden_step s (laden_of q o) ≡ with_of s asked (run.as_branch (load_added q.user image))
+        go (Ok d) e =
+            let w = (good_image q.user (adder asked (operands asked (placing t))) image e).1 (record { kind = 1; held = d }) (branch_is e) in
+            ap (with_of s asked) w.seen
+        go (Err k) e = bad_image q.user (adder asked (operands asked (placing t))) image e s asked h

@@ -1,10 +1,11 @@
 -- A guarded request by parts: what each step of it may rely on, and what it leaves of the session. What a step does not name stays.
-use Rattle.std.specs.Prelude.{◌≡◌, ◌⊎◌, T, eqb}
+use Rattle.std.specs.Prelude.{◌≡◌, ◌⊎◌, T, eqb, Result, Ok, Err}
 use Rattle.laws.specs.Slots.{pick}
 use Rattle.path.specs.Address.{valid}
 use Rattle.path.specs.View.{asked}
 use Rattle.model.specs.Things as things
 use Rattle.model.specs.Moves.{attribute_at}
+use Rattle.model.specs.Refusals as refusals
 use Rattle.model.specs.Run as run
 use Rattle.tables.specs.declared.Attributes.{Attributes}
 use Rattle.tables.specs.declared.Permissions.{Permissions}
@@ -84,7 +85,11 @@ pub record Weighs (s : Session) (v : Verdict) : Type 0 where
 pub record Carries (s : Session) (l : Laden) : Type 0 where
   pub sound : SessionSound s
   pub places : T (run.places (view_request l.request))
-  pub held : T l.good → ClipboardSound l.clipboard × T (run.cached (view_clipboard l.clipboard)).branch
+  pub held : (c : Clipboard) → l.branch ≡ Ok c → ClipboardSound c × T (run.cached (view_clipboard c)).branch
+
+abbrev pub branch_step : Session → refusals.Request → Result Clipboard Answer → Stepped
+branch_step s r (Ok c) = from_of s r (view_clipboard c)
+branch_step s r (Err a) = record { session = s; answer = a }
 
 abbrev pub laden_step : Session → Laden → Stepped
-laden_step s l = pick l.good (from_of s (view_request l.request) (view_clipboard l.clipboard)) (record { session = s; answer = l.answer })
+laden_step s l = branch_step s (view_request l.request) l.branch

@@ -205,14 +205,14 @@ pub fn place(s: &mut Session, l: Laden) -> Answer
     requires { Carries s.old l }
     ensures { (result ≡ (laden_step s.old l).answer) × (s.new ≡ (laden_step s.old l).session) }
 {
-    let good = l.good;
-    if good {
-        let kept = s.clipboard;
-        s.clipboard = l.clipboard;
-        let r = l.request;
-        let a = perform(s, r);
-        s.clipboard = kept;
-        return a;
+    match l.branch {
+        Ok(branch) => {
+            let kept = s.clipboard;
+            s.clipboard = branch;
+            let a = perform(s, l.request);
+            s.clipboard = kept;
+            a
+        }
+        Err(answer) => answer,
     }
-    l.answer
 }

@@ -1,16 +1,17 @@
 -- `session::parts::place` meets its contract: the image lies on the clipboard for the time of the paste. Assumes nothing.
-use mathlib.Core.Path.{ap, ◌∙◌}
+use mathlib.Core.Path.{sym, ap, ◌∙◌}
 use Rattle.state.specs.declared.Session.{Session}
+use Rattle.state.specs.View.{view_request}
 use Rattle.state.specs.Parts.{clipped_in}
-use Rattle.std.proofs.lemmas.Float.{T_from_true}
+use Rattle.session.specs.Requests.{branch_step}
 use Rattle.session.proofs.Placed.{laid_out_lem, laden_left}
 use Rattle.session.proofs.parts.place.Goals as goal
 
 pub perform-a-requires : goal.perform-a-requires
-perform-a-requires c = laid_out_lem c.args.s.now c.args.l c.requires (T_from_true c.args.l.good c.if-good.true)
+perform-a-requires c = laid_out_lem c.args.s.now c.args.l c.requires c.in-Ok.is
 
-pub returns-then-good : goal.returns-then-good
-returns-then-good c =
+pub returns-in-Ok : goal.returns-in-Ok
+returns-in-Ok c =
     let s = c.args.s.now in
-    let w = laden_left s c.args.l c.requires (T_from_true c.args.l.good c.if-good.true) in
+    let w = laden_left s c.args.l c.requires c.in-Ok.is in
     (c.perform-a.ensures.0 ∙ w.0, ap (λ (t : Session). clipped_in s.clipboard t) c.perform-a.ensures.1 ∙ w.1)
