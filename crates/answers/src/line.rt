@@ -1,5 +1,5 @@
 // A line of text that is put together before it is written.
-ghost use Rattle.std.specs.Prelude.{◌≤◌};
+ghost use Rattle.std.specs.Prelude.{◌≡◌, ◌≤◌, take};
 
 use std::fmt;
 use std::fmt::Write;
@@ -10,24 +10,30 @@ const ROOM: usize = 70000;
 // What finds no room is left out.
 #[derive(Drop)]
 pub struct Line {
-    bytes: [u8; 70000],
-    len: usize,
+    pub bytes: [u8; ROOM],
+    pub len: usize,
     ghost inside: { len ≤ 70000 },
 }
 
 impl Line {
-    pub fn new() -> Line {
+    pub fn new() -> Line
+        ensures { result.len ≡ 0 }
+    {
         Line {
-            bytes: [0; 70000],
+            bytes: [0; ROOM],
             len: 0,
         }
     }
 
-    pub fn clear(&mut self) {
+    pub fn clear(&mut self)
+        ensures { self.new.len ≡ 0 }
+    {
         self.len = 0;
     }
 
-    pub fn as_bytes(&self) -> &[u8] {
+    pub fn as_bytes(&self) -> &[u8]
+        ensures { result.now ≡ take self.now.len self.now.bytes }
+    {
         &self.bytes[..self.len]
     }
 

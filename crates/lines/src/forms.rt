@@ -69,7 +69,7 @@ fn request_of(name: &[u8]) -> Option<u8> {
     Some(number)
 }
 
-pub fn kind_of(name: &[u8]) -> Option<Kind> {
+pub(crate) fn kind_of(name: &[u8]) -> Option<Kind> {
     let kind = match name {
         b"request" => Kind::AnyRequest,
         b"start" => Kind::Start,
@@ -113,7 +113,7 @@ fn request_form(number: u8) -> &'static [Operand] {
     }
 }
 
-pub fn form_of(kind: Kind) -> &'static [Operand] {
+pub(crate) fn form_of(kind: Kind) -> &'static [Operand] {
     use Operand::*;
     match kind {
         Kind::Request(number) => request_form(number),
@@ -148,7 +148,7 @@ pub fn form_of(kind: Kind) -> &'static [Operand] {
 }
 
 // The room of a call that names none.
-pub fn usual_room(kind: Kind) -> usize {
+pub(crate) fn usual_room(kind: Kind) -> usize {
     match kind {
         Kind::Save | Kind::Clipboard | Kind::Store => 17920,
         Kind::Log => 512,
