@@ -80,10 +80,7 @@ fn answer_words(
     requires { SessionSound s }
     ensures { SessionSound result }
 {
-    if line.len() == 0 {
-        return s;
-    }
-    if line[0] == 35 {
+    if line.is_empty() || line[0] == b'#' {
         return s;
     }
     let c = call_in(line);

@@ -23,9 +23,7 @@ fn answer_all(rt: &(impl Files + Print), file: &mut impl Read) {
     let mut out = [0u8; 70000];
     let mut s = fresh();
     let mut r = fresh_reader();
-    let mut n: u64 = 0;
-    while n < u64::MAX {
-        n += 1;
+    for n in 1..=u64::MAX {
         r = next_line(file, &mut line, &mut piece, r);
         if r.ended {
             return;

@@ -80,8 +80,7 @@ pub fn answered(rt: &impl Print, o: Stepped, lent: &[u8], out: &mut [u8]) -> Ses
     requires { SessionSound o.session }
     ensures { SessionSound result }
 {
-    let a = o.answer;
-    say_answer(rt, a, lent, out);
+    say_answer(rt, o.answer, lent, out);
     o.session
 }
 
@@ -156,10 +155,7 @@ pub fn take_log(rt: &impl Print, s: Session, c: Call, lent: &mut [u8], out: &mut
 fn room_in(room: usize, lent: &[u8]) -> usize
     ensures { IsPrefixLen result lent.now }
 {
-    if lent.len() < room {
-        return lent.len();
-    }
-    room
+    room.min(lent.len())
 }
 
 pub fn save(rt: &impl Print, s: Session, c: Call, lent: &mut [u8], out: &mut [u8])
@@ -212,15 +208,11 @@ pub fn store(
 }
 
 pub fn show_dossier(rt: &impl Print, s: Session, n: u8, out: &mut [u8]) {
-    if n == 1 {
-        show(rt, s.one, out);
-        return;
+    match n {
+        1 => show(rt, s.one, out),
+        2 => show(rt, s.two, out),
+        _ => say_answer(rt, plain(Outcome::Refused(1)), b"", out),
     }
-    if n == 2 {
-        show(rt, s.two, out);
-        return;
-    }
-    say_answer(rt, plain(Outcome::Refused(1)), b"", out);
 }
 
 // ---- a decision on an image
