@@ -2,6 +2,7 @@
 use borrow.Author.Rules.{rules}
 use mathlib.Core.Path.{◌≡◌, sym, ◌∙◌}
 use Prim.Native.Nat.{◌≤◌}
+use native.Mathlib.Omega.{arith}
 use lib.ListN.{length, take}
 use Rattle.std.specs.Prelude.{IsTrue, ◌↔◌}
 use Rattle.std.specs.List.{All}
@@ -13,4 +14,4 @@ returns c =
     let p = c.args.p in
     let full : length p.steps ≡ 6 = search rules in
     let e : IsTrue c.all.result ↔ All (λ s. (1 ≤ s) × (s ≤ 32)) (take p.len p.steps) = search rules in
-    good_all c.all.result (take p.len p.steps) e ∙ sym (asked_good p full c.if-p-gt6.false)
+    good_all c.all.result (take p.len p.steps) e ∙ sym (asked_good p full (omega arith))
