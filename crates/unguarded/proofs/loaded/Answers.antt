@@ -5,8 +5,8 @@ use mathlib.Core.Bool.{true}
 use Rattle.model.specs.Image as images
 use Rattle.model.specs.Run.{dossier_good}
 use Rattle.image.specs.declared.Loaded.{Loaded}
-use Rattle.state.specs.declared.Outcome.TheVariants.{BadRecord}
-use Rattle.state.specs.View.{plain_of}
+use Rattle.std.specs.Prelude.{Err}
+use Rattle.state.specs.declared.refusal.Refusal.TheVariants.{BadRecord}
 use Rattle.unguarded.proofs.Loading.{found_bad, found_good, load_refused, load_bad, load_one, load_two}
 use Rattle.unguarded.proofs.loaded.Goals as goal
 use Rattle.unguarded.proofs.loaded.Goals.{After-load-l}
@@ -28,8 +28,7 @@ pub returns-then-not-l : goal.returns-then-not-l
 returns-then-not-l c =
     let m = images.load c.args.image.now in
     let e = c.load-l.ensures in
-    ap (λ a. record { one = c.args.one; two = c.args.two; answer = a }) c.plain.ensures
-    ∙ ap (λ (x : Loaded). record { one = c.args.one; two = c.args.two; answer = plain_of (BadRecord x.«record») }) e
+    ap (λ (x : Loaded). record { one = c.args.one; two = c.args.two; answer = Err (BadRecord x.«record») }) e
     ∙ load_bad c.requires.0 c.requires.1 c.args.n c.args.image.now _ (fair (goal.at.returns-then-not-l c).After-load-l) (found_bad m (sym (ap (λ (x : Loaded). x.good) e) ∙ not-true _ c.if-not-l.true))
 
 pub returns-then-n-eq1 : goal.returns-then-n-eq1
@@ -37,13 +36,11 @@ returns-then-n-eq1 c =
     let m = images.load c.args.image.now in
     let e = c.load-l.ensures in
     let g = found_good m (sym (ap (λ (x : Loaded). x.good) e) ∙ not-false _ c.if-not-l.false) in
-    ap (λ a. record { one = c.load-l.result.dossier; two = c.args.two; answer = a }) c.plain-then-n-eq1.ensures
-    ∙ load_one c.requires.0 c.requires.1 c.args.n c.args.image.now (ap (λ (x : Loaded). x.dossier) e ∙ g.same) (fair (goal.at.returns-then-n-eq1 c).After-load-l) g.is (eq-eqb _ _ c.if-n-eq1.true)
+    load_one c.requires.0 c.requires.1 c.args.n c.args.image.now (ap (λ (x : Loaded). x.dossier) e ∙ g.same) (fair (goal.at.returns-then-n-eq1 c).After-load-l) g.is (eq-eqb _ _ c.if-n-eq1.true)
 
 pub returns : goal.returns
 returns c =
     let m = images.load c.args.image.now in
     let e = c.load-l.ensures in
     let g = found_good m (sym (ap (λ (x : Loaded). x.good) e) ∙ not-false _ c.if-not-l.false) in
-    ap (λ a. record { one = c.args.one; two = c.load-l.result.dossier; answer = a }) c.plain-2.ensures
-    ∙ load_two c.requires.0 c.requires.1 c.args.n c.args.image.now (ap (λ (x : Loaded). x.dossier) e ∙ g.same) (fair (goal.at.returns c).After-load-l) g.is (ne_eqb _ _ c.if-n-eq1.false)
+    load_two c.requires.0 c.requires.1 c.args.n c.args.image.now (ap (λ (x : Loaded). x.dossier) e ∙ g.same) (fair (goal.at.returns c).After-load-l) g.is (ne_eqb _ _ c.if-n-eq1.false)
