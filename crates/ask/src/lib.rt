@@ -19,6 +19,7 @@ use encode::put4;
 use grants::{Decision, Subject};
 use image::load;
 use path::{Path, RawPath, is_valid, path_of};
+use state::refusal::Refusal;
 use tables::{Dossier, Owner};
 
 // What is asked, as it came: any numbers. Name 0 is the node at the path.
@@ -28,13 +29,6 @@ pub struct Question {
     pub path: RawPath,
     pub name: u16,
     pub action: u8,
-}
-
-// A refusal's number; or granted, with the messages to log and the agreements to be signed.
-#[derive(Clone, Copy)]
-pub enum Verdict {
-    Refused(u8),
-    Granted(u32, u32),
 }
 
 // ---- 1, 12, 3, 6
@@ -89,30 +83,30 @@ fn may(d: Dossier, p: Path, q: Question) -> Decision
     joined(read, change)
 }
 
-// 3 and 6, on a dossier that was loaded.
-fn decided_on(d: Dossier, q: Question) -> Verdict
+// 3 and 6, on a dossier that was loaded; or granted, with the messages to log and the agreements to be signed.
+fn decided_on(d: Dossier, q: Question) -> Result<(u32, u32), Refusal>
     requires { DossierFits d × T (valid (asked q.path)) }
     ensures { result ≡ verdict_in (view_question q) (view_dossier d) }
 {
     let p = path_of(q.path);
     if absent(d, p, q.name) {
-        return Verdict::Refused(3);
+        return Err(Refusal::Absent);
     }
     match may(d, p, q) {
-        Decision::Denied => Verdict::Refused(6),
-        Decision::Granted(m, a) => Verdict::Granted(m, a),
+        Decision::Denied => Err(Refusal::NotGranted),
+        Decision::Granted(m, a) => Ok((m, a)),
     }
 }
 
-fn decided(image: &[u8], q: Question) -> Verdict
+fn decided(image: &[u8], q: Question) -> Result<(u32, u32), Refusal>
     ensures { result ≡ verdict_on (view_question q) (run.image_of (images.load image.now)) }
 {
     if bad_question(q) {
-        return Verdict::Refused(1);
+        return Err(Refusal::BadOperand);
     }
     let loaded = load(image);
     if !loaded.good {
-        return Verdict::Refused(12);
+        return Err(Refusal::BadImage);
     }
     decided_on(loaded.dossier, q)
 }
@@ -155,10 +149,10 @@ pub fn dossier_ask(
         action: action,
     };
     match decided(image, q) {
-        Verdict::Refused(n) => n as u32,
-        Verdict::Granted(m, a) => {
+        Err(refusal) => refusal.number() as u32,
+        Ok((m, a)) => {
             if out.len() < 8 {
-                return 9;
+                return Refusal::ShortBuffer.number() as u32;
             }
             put4(out, 0, m);
             put4(out, 4, a);
