@@ -19,7 +19,7 @@ use Rattle.image.specs.View.{loaded_of}
 use Rattle.state.specs.declared.DossiersOut.{DossiersOut}
 use Rattle.std.specs.Prelude.{Ok, Err}
 use Rattle.state.specs.declared.Reply.TheVariants.{Done}
-use Rattle.state.specs.declared.refusal.Refusal.TheVariants.{BadOperand, ShortBuffer, BadRecord}
+use Rattle.state.specs.declared.refusal.Refusal.TheVariants.{BadOperand, BadRecord}
 use Rattle.state.specs.Refusals.{refusal_of}
 use Rattle.state.specs.View.{answer_of}
 use Rattle.state.specs.Calls.{having, dossiers_after}

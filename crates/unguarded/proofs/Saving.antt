@@ -16,9 +16,8 @@ use Rattle.tables.specs.View.{view_clipboard}
 use Rattle.save.specs.declared.Written.{Written}
 use Rattle.save.specs.declared.Written.TheVariants.{Short, Bytes}
 use Rattle.save.specs.Saved.{written_of, left_in}
-use Rattle.std.specs.Prelude.{Ok, Err}
-use Rattle.state.specs.declared.Reply.TheVariants.{Done}
-use Rattle.state.specs.declared.refusal.Refusal.TheVariants.{BadOperand, ShortBuffer, BadRecord}
+use Rattle.std.specs.Prelude.{Err}
+use Rattle.state.specs.declared.refusal.Refusal.TheVariants.{BadOperand}
 use Rattle.state.specs.Refusals.{refusal_of}
 use Rattle.state.specs.View.{answer_of}
 use Rattle.state.specs.Calls.{answer_in, buffer_in, only_buffer, having_clipboard}
