@@ -2,7 +2,8 @@
 #![tactic(auto)]
 
 use encode::pattern_of;
-use state::{Answer, Outcome};
+use state::refusal::Refusal;
+use state::{Answer, Reply};
 use tables::{Names, Value};
 use words::{Word, word_of};
 
@@ -111,40 +112,49 @@ fn put_written(out: &mut [u8], n: usize, lent: &[u8]) -> usize {
     put_bytes(out, at, word_of(lent, written))
 }
 
-fn put_refusal(out: &mut [u8], n: u64) -> usize {
+fn put_refused(out: &mut [u8], n: u64) -> usize {
     let at = put_text(out, 0, b"refused ");
     put_number(out, at, n)
 }
 
-fn put_record(out: &mut [u8], n: usize) -> usize {
-    let at = put_text(out, 0, b"refused 12 record=");
-    put_number(out, at, n as u64)
+// The paper's number; 12 with its record.
+fn put_refusal(out: &mut [u8], e: Refusal) -> usize {
+    let at = put_refused(out, e.number() as u64);
+    match e {
+        Refusal::BadRecord(k) => put_record(out, at, k),
+        _ => at,
+    }
+}
+
+fn put_record(out: &mut [u8], at: usize, n: usize) -> usize {
+    let to = put_text(out, at, b" record=");
+    put_number(out, to, n as u64)
 }
 
 // ---- whole lines
 
-fn put_outcome(out: &mut [u8], a: Answer, lent: &[u8]) -> usize {
-    let outcome = a.outcome;
-    match outcome {
-        Outcome::Done => put_text(out, 0, b"ok"),
-        Outcome::Contents(n) => put_contents(out, n, a.names),
-        Outcome::ValueRead(v) => put_value(out, v),
-        Outcome::Wrote(n) => put_written(out, n, lent),
-        Outcome::Refused(n) => put_refusal(out, n as u64),
-        Outcome::BadRecord(n) => put_record(out, n),
+fn put_reply(out: &mut [u8], r: Reply, lent: &[u8]) -> usize {
+    match r {
+        Reply::Done => put_text(out, 0, b"ok"),
+        Reply::Contents(names, children) => put_contents(out, children, names),
+        Reply::ValueRead(v) => put_value(out, v),
+        Reply::Wrote(n) => put_written(out, n, lent),
     }
 }
 
 // The line of an answer; a save's bytes are those of the buffer that was lent to it.
 pub fn put_answer(out: &mut [u8], a: Answer, lent: &[u8]) -> usize {
-    let at = put_outcome(out, a, lent);
+    let at = match a {
+        Ok(r) => put_reply(out, r, lent),
+        Err(e) => put_refusal(out, e),
+    };
     put_byte(out, at, 10)
 }
 
 // The line of an ask: the number that it answered, and the two sets that it wrote.
 pub fn put_asked(out: &mut [u8], number: u32, messages: u32, agreements: u32) -> usize {
     if number != 0 {
-        let end = put_refusal(out, number as u64);
+        let end = put_refused(out, number as u64);
         return put_byte(out, end, 10);
     }
     let mut at = put_text(out, 0, b"ok messages=");

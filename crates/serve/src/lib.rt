@@ -14,7 +14,8 @@ use session::{
     start, via_load, via_renew, via_request, via_save, via_save_clipboard, via_sign, via_take_log,
 };
 use show::{say, show};
-use state::{Answer, Outcome, Request, Session, Stepped, plain};
+use state::refusal::Refusal;
+use state::{Answer, Reply, Request, Session, Stepped};
 use std::rt::Files;
 use words::{Word, word_of};
 
@@ -88,7 +89,7 @@ pub fn answered(rt: &impl Print, o: Stepped, lent: &[u8], out: &mut [u8]) -> Ses
 pub fn start_again(rt: &impl Print, out: &mut [u8]) -> Session
     ensures { SessionSound result }
 {
-    say_answer(rt, plain(Outcome::Done), b"", out);
+    say_answer(rt, Ok(Reply::Done), b"", out);
     fresh()
 }
 
@@ -194,8 +195,7 @@ pub fn store(
     let r = c.request;
     let n = room_in(c.room, lent);
     let a = via_save(s, r.dossier, &mut lent[..n]);
-    let outcome = a.outcome;
-    let Outcome::Wrote(size) = outcome else {
+    let Ok(Reply::Wrote(size)) = a else {
         say_answer(rt, a, lent, out);
         return;
     };
@@ -220,7 +220,7 @@ pub fn show_dossier(rt: &impl Print, s: Session, n: u8, out: &mut [u8]) {
         show(rt, s.two, out);
         return;
     }
-    say_answer(rt, plain(Outcome::Refused(1)), b"", out);
+    say_answer(rt, Err(Refusal::BadOperand), b"", out);
 }
 
 // ---- a decision on an image
