@@ -5,7 +5,8 @@ pub mod line;
 
 use crate::line::Line;
 use encode::pattern_of;
-use state::{Answer, Outcome};
+use state::refusal::Refusal;
+use state::{Answer, Reply};
 use std::fmt;
 use std::fmt::Write;
 use tables::{Names, Value};
@@ -42,21 +43,35 @@ fn put_value(line: &mut Line, v: Value) -> fmt::Result {
     }
 }
 
+// The paper's number; 12 with its record.
+fn put_refusal(line: &mut Line, e: Refusal) -> fmt::Result {
+    write!(line, "refused {}", e.number())?;
+    match e {
+        Refusal::BadRecord(k) => write!(line, " record={k}"),
+        _ => Ok(()),
+    }
+}
+
+fn put_reply(line: &mut Line, r: Reply, lent: &[u8]) -> fmt::Result {
+    match r {
+        Reply::Done => line.write_str("ok"),
+        Reply::Contents(names, children) => {
+            write!(line, "ok children={children} names=")?;
+            put_names(line, names)
+        }
+        Reply::ValueRead(v) => put_value(line, v),
+        Reply::Wrote(n) => {
+            write!(line, "ok bytes={n} ")?;
+            put_bytes(line, lent.get(..n).unwrap_or_default())
+        }
+    }
+}
+
 // The line of an answer; a save's bytes are those of the buffer that was lent to it.
 pub fn put_answer(line: &mut Line, a: Answer, lent: &[u8]) -> fmt::Result {
-    match a.outcome {
-        Outcome::Done => line.write_str("ok")?,
-        Outcome::Contents(children) => {
-            write!(line, "ok children={children} names=")?;
-            put_names(line, a.names)?;
-        }
-        Outcome::ValueRead(v) => put_value(line, v)?,
-        Outcome::Wrote(n) => {
-            write!(line, "ok bytes={n} ")?;
-            put_bytes(line, lent.get(..n).unwrap_or_default())?;
-        }
-        Outcome::Refused(n) => write!(line, "refused {n}")?,
-        Outcome::BadRecord(n) => write!(line, "refused 12 record={n}")?,
+    match a {
+        Ok(r) => put_reply(line, r, lent)?,
+        Err(e) => put_refusal(line, e)?,
     }
     line.write_str("\n")
 }

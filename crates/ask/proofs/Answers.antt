@@ -17,10 +17,12 @@ use Rattle.model.specs.Image as images
 use Rattle.model.specs.Image.{bytes4}
 use Rattle.model.specs.Run as run
 use Rattle.model.specs.Run.{Question, Reply, bad_question, may_ask_in, or_none, image_of, written, step}
-use Rattle.ask.specs.declared.Verdict.{Verdict}
-use Rattle.ask.specs.declared.Verdict.TheVariants.{Refused, Granted}
+use Rattle.grants.specs.declared.Provisions as grants
+use Rattle.std.specs.Prelude.{Ok, Err}
+use Rattle.state.specs.declared.refusal.Refusal.{Refusal}
+use Rattle.state.specs.Refusals.{number_of, refusal_of}
 use Rattle.ask.specs.Asked.{reply_to, out_of}
-use Rattle.ask.specs.Verdict.{verdict_of, verdict_on, number_for, bytes_for}
+use Rattle.ask.specs.Verdict.{Verdict, verdict_of, verdict_on, number_for, bytes_for}
 
 module _ (image buffer : List ℕ) where
   -- what the model leaves, of the number that is refused
@@ -40,6 +42,7 @@ module _ (image buffer : List ℕ) where
 
   tests : (a b c d : Bool) (p : Provisions)
       → Agree (left (first_that ((1, a) ∷ (12, b) ∷ (3, c) ∷ (6, d) ∷ (9, ltb (length buffer) 8) ∷ [])) p) (verdict_of (first_that ((1, a) ∷ (12, b) ∷ (3, c) ∷ (6, d) ∷ [])) p)
+  unfolding refusal_of
   tests true b c d p = (refl, refl)
   tests false true c d p = (refl, refl)
   tests false false true d p = (refl, refl)
@@ -65,19 +68,19 @@ module _ (image buffer : List ℕ) where
         let r = replied (q u) in
         (ap (number_for (length buffer)) d ∙ sym r.0, ap (bytes_for buffer) d ∙ sym r.1)
 
-    pub answer_refused : {n : ℕ} → v ≡ Refused n → Answers (q u) n buffer
-    answer_refused k = answers k
+    pub answer_refused : {r : Refusal} → v ≡ Err r → {n : ℕ} → n ≡ number_of r → Answers (q u) n buffer
+    answer_refused k f = (f ∙ (answers k).0, (answers k).1)
 
-    module _ {m a : ℕ} (k : v ≡ Granted m a) where
+    module _ {p : grants.Provisions} (k : v ≡ Ok p) where
       pub answer_short : length buffer < 8 → Answers (q u) 9 buffer
       answer_short s =
           let b = sym (lt-ltb (length buffer) 8 s) in
-          (ap (λ (x : Bool). pick x 9 0) b ∙ (answers k).0, ap (λ (x : Bool). pick x buffer (written (bytes4 m ++ bytes4 a) buffer)) b ∙ (answers k).1)
+          (ap (λ (x : Bool). pick x 9 0) b ∙ (answers k).0, ap (λ (x : Bool). pick x buffer (written (bytes4 p.messages ++ bytes4 p.agreements) buffer)) b ∙ (answers k).1)
 
       -- messages are put first, then agreements behind them
-      pub answer_written : {one two : List ℕ} → 8 ≤ length buffer → one ≡ put buffer 0 (bytes4 m) → two ≡ put one 4 (bytes4 a) → Answers (q u) 0 two
+      pub answer_written : {one two : List ℕ} → 8 ≤ length buffer → one ≡ put buffer 0 (bytes4 p.messages) → two ≡ put one 4 (bytes4 p.agreements) → Answers (q u) 0 two
       answer_written {one} {two} s f g =
           let b = sym (le-ltb (length buffer) 8 s) in (
             ap (λ (x : Bool). pick x 9 0) b ∙ (answers k).0,
-            then buffer one two 0 (bytes4 m) (bytes4 a) f g s ∙ ap (λ (x : Bool). pick x buffer (written (bytes4 m ++ bytes4 a) buffer)) b ∙ (answers k).1,
+            then buffer one two 0 (bytes4 p.messages) (bytes4 p.agreements) f g s ∙ ap (λ (x : Bool). pick x buffer (written (bytes4 p.messages ++ bytes4 p.agreements) buffer)) b ∙ (answers k).1,
           )

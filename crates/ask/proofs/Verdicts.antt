@@ -30,9 +30,9 @@ use Rattle.std.proofs.Common.{Result, Ok, Err}
 use Rattle.tables.specs.declared.Dossier.{Dossier}
 use Rattle.image.specs.declared.BadRecord.{BadRecord}
 use Rattle.image.specs.View.{loaded_of}
-use Rattle.ask.specs.declared.Verdict.{Verdict}
-use Rattle.ask.specs.declared.Verdict.TheVariants as verdicts
-use Rattle.ask.specs.Verdict.{verdict_on, verdict_at, verdict_in}
+use Rattle.state.specs.declared.refusal.Refusal.TheVariants.{BadOperand, BadImage, Absent, NotGranted}
+use Rattle.state.specs.Refusals.{refusal_of}
+use Rattle.ask.specs.Verdict.{Verdict, verdict_on, verdict_at, verdict_in}
 
 -- ---- 6: what is granted, by name and action
 module _ {n : ℕ} (p : Address) (d : things.Dossier) where
@@ -56,22 +56,24 @@ module _ (q : Question) (p : Address) (d : things.Dossier) where
     asks_both n = rw (ne_eqb q.action 1 a, ne_eqb q.name 0 n)
 
 -- ---- 3 and 6, on a dossier
-pub not_there : (o : Option Object) (m : Option Provisions) → true ≡ missing o → verdicts.Refused 3 ≡ verdict_at o m
+pub not_there : (o : Option Object) (m : Option Provisions) → true ≡ missing o → Err Absent ≡ verdict_at o m
+unfolding refusal_of
 not_there none m e = refl
 not_there (some o) m e = no e
 
 abbrev pub of_decision : std.Option grants.Provisions → Verdict
-of_decision None = verdicts.Refused 6
-of_decision (Some p) = verdicts.Granted p.messages p.agreements
+of_decision None = Err NotGranted
+of_decision (Some p) = Ok p
 
 pub decided_there : (o : Option Object) (m : Option Provisions) → false ≡ missing o → of_decision (decision_of m) ≡ verdict_at o m
+unfolding refusal_of
 decided_there none m e = no (sym e)
 decided_there (some o) none e = refl
 decided_there (some o) (some p) e = refl
 
 -- looked up at a path that is the one asked for
 module _ (q : Question) (d : things.Dossier) {l : Address} (e : l ≡ q.path) {b : Bool} (h : b ≡ missing (object_at l q.name d)) where
-  pub absent_there : b ≡ true → verdicts.Refused 3 ≡ verdict_in q d
+  pub absent_there : b ≡ true → Err Absent ≡ verdict_in q d
   absent_there t = not_there (object_at q.path q.name d) (may_ask_in q d) (sym t ∙ h ∙ ap (λ k. missing (object_at k q.name d)) e)
 
   pub decided_on_it : {r : std.Option grants.Provisions} → b ≡ false → r ≡ decision_of (may_ask q (object_at l q.name d) (node_at l d)) → of_decision r ≡ verdict_in q d
@@ -96,7 +98,8 @@ time_good_lem (negsuc n) f = let k = f.sfits in sym (ap (λ b. b && true) (le-le
 pub path_asked : (q : Question) → bad_question q ≡ false → T (valid q.path)
 path_asked q e = path_good (role_good q.role) (user_good q.user) (time_good q.time) (valid q.path) (leb q.name 65535 && between 1 2 q.action) e
 
-pub bad_asked : (q : Question) (d : Option things.Dossier) {b : Bool} → b ≡ bad_question q → b ≡ true → verdicts.Refused 1 ≡ verdict_on q d
+pub bad_asked : (q : Question) (d : Option things.Dossier) {b : Bool} → b ≡ bad_question q → b ≡ true → Err BadOperand ≡ verdict_on q d
+unfolding refusal_of
 bad_asked q d h e = rw (sym h ∙ e)
 
 -- what was loaded
@@ -109,7 +112,8 @@ is_good (Ok x) = true
 is_good (Err k) = false
 
 module _ (q : Question) (h : false ≡ bad_question q) where
-  pub bad_image : {r : BadRecord} (l : images.Loaded things.Dossier) → Err r ≡ loaded_of l → verdicts.Refused 12 ≡ verdict_on q (image_of l)
+  pub bad_image : {r : BadRecord} (l : images.Loaded things.Dossier) → Err r ≡ loaded_of l → Err BadImage ≡ verdict_on q (image_of l)
+  unfolding refusal_of
   bad_image (images.bad k) e = rw (sym h)
   bad_image (images.good d) e = no (sym (ap is_good e))
 

@@ -1,5 +1,5 @@
 -- The structs of this crate and the model; what is decided before anything is written.
-use Rattle.std.specs.Prelude.{Bool, List, [], ◌∷◌, ◌++◌, ℕ, ltb, length}
+use Rattle.std.specs.Prelude.{Bool, List, [], ◌∷◌, ◌++◌, ℕ, ltb, length, Result, Ok, Err}
 use Rattle.std.proofs.Math.Option.{Option, none, some}
 use Rattle.laws.specs.Slots.{pick}
 use Rattle.path.specs.View.{asked}
@@ -10,9 +10,10 @@ use Rattle.model.specs.Refusals.{missing, provisions, first_that}
 use Rattle.model.specs.Image.{bytes4}
 use Rattle.model.specs.Run as run
 use Rattle.model.specs.Run.{bad_question, or_none, may_ask_in, written}
+use Rattle.grants.specs.declared.Provisions as grants
 use Rattle.ask.specs.declared.Question.{Question}
-use Rattle.ask.specs.declared.Verdict.{Verdict}
-use Rattle.ask.specs.declared.Verdict.TheVariants.{Refused, Granted}
+use Rattle.state.specs.declared.refusal.Refusal.{Refusal}
+use Rattle.state.specs.Refusals.{number_of, refusal_of}
 
 -- a question: whatever its bytes are, it asks for something
 abbrev pub view_question : Question → run.Question
@@ -26,10 +27,13 @@ view_question q =
       action = q.action;
     }
 
--- refused, or granted with provisions
+-- refused; or granted, with the messages to log and the agreements to be signed
+abbrev pub Verdict : Type 0
+Verdict = Result grants.Provisions Refusal
+
 abbrev pub verdict_of : Option ℕ → Provisions → Verdict
-verdict_of (some n) p = Refused n
-verdict_of none p = Granted p.messages p.agreements
+verdict_of (some n) p = Err (refusal_of n)
+verdict_of none p = Ok (record { messages = p.messages; agreements = p.agreements })
 
 -- "tested 1, 12, 3, 6": whether the image is bad, the object, and what is granted on it
 abbrev pub verdict : run.Question → Bool → Option Object → Option Provisions → Verdict
@@ -48,9 +52,9 @@ verdict_in q d = verdict_at (object_at q.path q.name d) (may_ask_in q d)
 
 -- 9, a lent buffer too short, comes last: the number, and the buffer as it is left
 abbrev pub number_for : ℕ → Verdict → ℕ
-number_for room (Refused n) = n
-number_for room (Granted m a) = pick (ltb room 8) 9 0
+number_for room (Err e) = number_of e
+number_for room (Ok g) = pick (ltb room 8) 9 0
 
 abbrev pub bytes_for : List ℕ → Verdict → List ℕ
-bytes_for old (Refused n) = old
-bytes_for old (Granted m a) = pick (ltb (length old) 8) old (written (bytes4 m ++ bytes4 a) old)
+bytes_for old (Err e) = old
+bytes_for old (Ok g) = pick (ltb (length old) 8) old (written (bytes4 g.messages ++ bytes4 g.agreements) old)

@@ -19,6 +19,7 @@ use encode::put4;
 use grants::{Provisions, Subject};
 use image::load;
 use path::{Path, RawPath, is_valid, path_of};
+use state::refusal::Refusal;
 use tables::Dossier;
 
 // What is asked, as it came: any numbers. Name 0 is the node at the path.
@@ -28,13 +29,6 @@ pub struct Question {
     pub path: RawPath,
     pub name: u16,
     pub action: u8,
-}
-
-// A refusal's number; or granted, with the messages to log and the agreements to be signed.
-#[derive(Clone, Copy)]
-pub enum Verdict {
-    Refused(u8),
-    Granted(u32, u32),
 }
 
 // ---- 1, 12, 3, 6
@@ -86,30 +80,27 @@ fn may(d: Dossier, p: Path, q: Question) -> Option<Provisions>
     joined(read, change)
 }
 
-// 3 and 6, on a dossier that was loaded.
-fn decided_on(d: Dossier, q: Question) -> Verdict
+// 3 and 6, on a dossier that was loaded; or granted, with the messages to log and the agreements to be signed.
+fn decided_on(d: Dossier, q: Question) -> Result<Provisions, Refusal>
     requires { DossierFits d × T (valid (asked q.path)) }
     ensures { result ≡ verdict_in (view_question q) (view_dossier d) }
 {
     let p = path_of(q.path);
     if absent(d, p, q.name) {
-        return Verdict::Refused(3);
+        return Err(Refusal::Absent);
     }
-    match may(d, p, q) {
-        None => Verdict::Refused(6),
-        Some(p) => Verdict::Granted(p.messages, p.agreements),
-    }
+    may(d, p, q).ok_or(Refusal::NotGranted)
 }
 
-fn decided(image: &[u8], q: Question) -> Verdict
+fn decided(image: &[u8], q: Question) -> Result<Provisions, Refusal>
     ensures { result ≡ verdict_on (view_question q) (run.image_of (images.load image.now)) }
 {
     if bad_question(q) {
-        return Verdict::Refused(1);
+        return Err(Refusal::BadOperand);
     }
     match load(image) {
         Ok(d) => decided_on(d, q),
-        Err(_) => Verdict::Refused(12),
+        Err(_) => Err(Refusal::BadImage),
     }
 }
 
@@ -136,28 +127,28 @@ pub fn dossier_ask(
     ensures bytes { out.new ≡ out_of (reply_to image.now (question_of role user time len s1 s2 s3 s4 s5 s6 name action) out.old) }
 {
     let path = RawPath {
-        len: len,
+        len,
         steps: [s1, s2, s3, s4, s5, s6],
     };
     let subject = Subject {
-        role: role,
-        user: user,
-        time: time,
+        role,
+        user,
+        time,
     };
     let q = Question {
-        subject: subject,
-        path: path,
-        name: name,
-        action: action,
+        subject,
+        path,
+        name,
+        action,
     };
     match decided(image, q) {
-        Verdict::Refused(n) => n as u32,
-        Verdict::Granted(m, a) => {
+        Err(refusal) => refusal.number() as u32,
+        Ok(asked) => {
             if out.len() < 8 {
-                return 9;
+                return Refusal::ShortBuffer.number() as u32;
             }
-            put4(out, 0, m);
-            put4(out, 4, a);
+            put4(out, 0, asked.messages);
+            put4(out, 4, asked.agreements);
             0
         }
     }

@@ -1,5 +1,6 @@
 // What is written: words, numbers, answers. What cannot be written is left out.
-use state::{Answer, Outcome};
+use state::refusal::Refusal;
+use state::{Answer, Reply};
 
 pub fn text(rt: &impl Print, s: &[u8]) {
     let _ = rt.write_all(s);
@@ -16,26 +17,27 @@ pub fn either(rt: &impl Print, yes: bool, a: &[u8], b: &[u8]) {
 // The words before an answer, and then its refusal number, or the words for one that is no refusal.
 pub fn answered(rt: &impl Print, before: &[u8], a: Answer, good: &[u8]) {
     text(rt, before);
-    let o = a.outcome;
-    match o {
-        Outcome::Refused(n) => {
-            text(rt, b"refused ");
-            number(rt, n as u64);
-        }
-        Outcome::BadRecord(n) => {
-            text(rt, b"refused 12 at record ");
-            number(rt, n as u64);
-        }
-        _ => text(rt, good),
+    match a {
+        Ok(_) => text(rt, good),
+        Err(e) => refused(rt, e),
+    }
+}
+
+// A refusal's number; 12 with its record.
+fn refused(rt: &impl Print, e: Refusal) {
+    text(rt, b"refused ");
+    number(rt, e.number() as u64);
+    if let Refusal::BadRecord(k) = e {
+        text(rt, b" at record ");
+        number(rt, k as u64);
     }
 }
 
 // The words before a child count that a read of a node answers.
 pub fn children(rt: &impl Print, before: &[u8], a: Answer) {
     text(rt, before);
-    let o = a.outcome;
-    match o {
-        Outcome::Contents(n) => {
+    match a {
+        Ok(Reply::Contents(_, n)) => {
             number(rt, n as u64);
             text(rt, b" children");
         }
@@ -45,9 +47,8 @@ pub fn children(rt: &impl Print, before: &[u8], a: Answer) {
 
 // As many bytes as the answer says were written, two digits each.
 pub fn image(rt: &impl Print, a: Answer, bytes: &[u8]) {
-    let o = a.outcome;
-    match o {
-        Outcome::Wrote(n) => {
+    match a {
+        Ok(Reply::Wrote(n)) => {
             hex(rt, n, bytes);
             text(rt, b", ");
             number(rt, n as u64);

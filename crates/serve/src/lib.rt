@@ -16,7 +16,8 @@ use session::{
     start, via_load, via_renew, via_request, via_save, via_save_clipboard, via_sign, via_take_log,
 };
 use show::{say, show};
-use state::{Answer, Outcome, Request, Session, Stepped, plain};
+use state::refusal::Refusal;
+use state::{Answer, Reply, Request, Session, Stepped};
 use std::rt::Files;
 
 // ---- what is written
@@ -90,7 +91,7 @@ pub fn answered(rt: &impl Print, o: Stepped, lent: &[u8], out: &mut Line) -> Ses
 pub fn start_again(rt: &impl Print, out: &mut Line) -> Session
     ensures { SessionSound result }
 {
-    say_answer(rt, plain(Outcome::Done), b"", out);
+    say_answer(rt, Ok(Reply::Done), b"", out);
     fresh()
 }
 
@@ -176,7 +177,7 @@ pub fn store(
 {
     let n = room_in(c.room, lent);
     let a = via_save(s, c.request.dossier, &mut lent[..n]);
-    let Outcome::Wrote(size) = a.outcome else {
+    let Ok(Reply::Wrote(size)) = a else {
         say_answer(rt, a, lent, out);
         return;
     };
@@ -198,7 +199,7 @@ pub fn show_dossier(rt: &impl Print, s: &Session, n: u8, out: &mut Line) {
         2 => {
             let _ = show(rt, &s.two, out);
         }
-        _ => say_answer(rt, plain(Outcome::Refused(1)), b"", out),
+        _ => say_answer(rt, Err(Refusal::BadOperand), b"", out),
     }
 }
 

@@ -18,9 +18,11 @@ use Rattle.twin.proofs.Refusal.{judged, JudgedSo, lent_by}
 use Rattle.twin.proofs.Placed.{pasted, IsPaste}
 use Rattle.twin.proofs.Decision.{OwnedOr, OneMatches, TwoMatch, read_exactly, change_exactly, own_exactly, delegate_exactly}
 use Rattle.state.specs.declared.Session.{Session}
-use Rattle.state.specs.declared.Outcome.TheVariants.{Done, Wrote, Refused, BadRecord}
-use Rattle.state.specs.declared.Answer.{Answer}
-use Rattle.state.specs.View.{view_session, session_of, answer_of, SessionSound}
+use Rattle.std.specs.Prelude.{Ok, Err}
+use Rattle.state.specs.declared.Reply.TheVariants.{Done, Wrote}
+use Rattle.state.specs.declared.refusal.Refusal.TheVariants.{BadRecord}
+use Rattle.state.specs.Refusals.{numbered, refusal_of}
+use Rattle.state.specs.View.{Answer, view_session, session_of, answer_of, SessionSound}
 use Rattle.state.specs.Calls.{only_buffer, Steps, Writes}
 use Rattle.state.proofs.Sessions.{state_sound}
 use Rattle.state.specs.Parts.{numbered_in}
@@ -31,7 +33,7 @@ use Rattle.session.proofs.Trips.{dossier_sound, saved_loads, loaded_saves}
 use Rattle.session.proofs.Runs.{ran_alike}
 use Rattle.session.proofs.Granted.{object_no_clash}
 
--- ---- 1: every call ends with an answer or a numbered refusal (an Outcome), and a refusal changes nothing; what is assumed of a session is what start gives and every call keeps
+-- ---- 1: every call ends with an answer or a numbered refusal (a Result), and a refusal changes nothing; what is assumed of a session is what start gives and every call keeps
 pub record Demand1 : Type 0 where
   pub started : SessionSound (session_of fresh)
   pub kept : (s : Session) (c : Call) (a : Answer) (t : Session) → SessionSound s → Steps s c a t → SessionSound t
@@ -43,9 +45,9 @@ demand1 = record { started = start_sound; kept = λ s c a t h p. subst SessionSo
 
 -- ---- 2: decisions and states are those of document 01
 pub record Demand2 : Type 0 where
-  -- a request is refused n exactly where the table says so, 12 with a record exactly where request 17's image is bad there, and else carried out; c is what there is to paste
-  pub refused : (s : Session) (r : Request) (image : List ℕ) (a : Answer) (t : Session) → Steps s (request r image) a t → (n : ℕ) → (a.outcome ≡ Refused n) ↔ JudgedSo (view_session s) r image n
-  pub bad_image : (s : Session) (r : Request) (image : List ℕ) (a : Answer) (t : Session) → Steps s (request r image) a t → (k : ℕ) → (a.outcome ≡ BadRecord k) ↔ (source (view_session s) r image ≡ bad k)
+  -- a request is refused n, a number of the table, exactly where the table says so, 12 with a record exactly where request 17's image is bad there, and else carried out; c is what there is to paste
+  pub refused : (s : Session) (r : Request) (image : List ℕ) (a : Answer) (t : Session) → Steps s (request r image) a t → (n : ℕ) → (T (numbered n) × (a ≡ Err (refusal_of n))) ↔ JudgedSo (view_session s) r image n
+  pub bad_image : (s : Session) (r : Request) (image : List ℕ) (a : Answer) (t : Session) → Steps s (request r image) a t → (k : ℕ) → (a ≡ Err (BadRecord k)) ↔ (source (view_session s) r image ≡ bad k)
   pub carried : (s : Session) (r : Request) (image : List ℕ) (a : Answer) (t : Session) → Steps s (request r image) a t
       → (c : Clipboard) → source (view_session s) r image ≡ good c → judged (view_session s) r c ≡ none
       → let d = dossier r.dossier (view_session s) in
@@ -63,10 +65,10 @@ pub record Demand2 : Type 0 where
   pub delegate : (s : Session) → SessionSound s → (n : ℕ) (p : Address) (name : ℕ) (o : Object) → object_at p name (dossier n (view_session s)) ≡ some o
       → (u : Subject) (π : Provisions) → (delegate_by u o ≡ some π) ↔ OneMatches u 4 o.permissions π
   -- what a save wrote loads, into any session, as the same dossier; what a load took is saved as the same bytes
-  pub loads_back : (s : Session) → SessionSound s → (n : ℕ) (buffer : List ℕ) (a : Answer) (b : List ℕ) → Writes s (save n buffer) a b → (k : ℕ) → a.outcome ≡ Wrote k
-      → (u : Session) (m : ℕ) → T (dossier_good m) → (a' : Answer) (t : Session) → Steps u (load m (take k b)) a' t → (a'.outcome ≡ Done) × (numbered_in m t ≡ numbered_in n s)
-  pub saves_back : (s : Session) (n : ℕ) (image : List ℕ) (a : Answer) (t : Session) → Steps s (load n image) a t → a.outcome ≡ Done
-      → (buffer : List ℕ) (a' : Answer) (b : List ℕ) → Writes t (save n buffer) a' b → (k : ℕ) → a'.outcome ≡ Wrote k → (k ≡ length image) × (take k b ≡ image)
+  pub loads_back : (s : Session) → SessionSound s → (n : ℕ) (buffer : List ℕ) (a : Answer) (b : List ℕ) → Writes s (save n buffer) a b → (k : ℕ) → a ≡ Ok (Wrote k)
+      → (u : Session) (m : ℕ) → T (dossier_good m) → (a' : Answer) (t : Session) → Steps u (load m (take k b)) a' t → (a' ≡ Ok Done) × (numbered_in m t ≡ numbered_in n s)
+  pub saves_back : (s : Session) (n : ℕ) (image : List ℕ) (a : Answer) (t : Session) → Steps s (load n image) a t → a ≡ Ok Done
+      → (buffer : List ℕ) (a' : Answer) (b : List ℕ) → Writes t (save n buffer) a' b → (k : ℕ) → a' ≡ Ok (Wrote k) → (k ≡ length image) × (take k b ≡ image)
 
 pub demand2 : Demand2
 demand2 = record {

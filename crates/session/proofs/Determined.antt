@@ -4,8 +4,7 @@ use mathlib.Core.List.{List}
 use Prim.Native.Nat.{ℕ}
 use Rattle.model.specs.Run.{Call}
 use Rattle.state.specs.declared.Session.{Session}
-use Rattle.state.specs.declared.Answer.{Answer}
-use Rattle.state.specs.View.{SessionSound}
+use Rattle.state.specs.View.{Answer, SessionSound}
 use Rattle.state.specs.Calls.{Steps, Writes}
 use Rattle.session.specs.Promises.{Gave, Promised}
 use Rattle.session.proofs.Runs.{as_promised}

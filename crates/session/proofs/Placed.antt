@@ -1,5 +1,5 @@
 -- Request 17 by parts: its image lies on the clipboard for the time of the paste, which leaves everything else as a paste from the image does. Assumes nothing.
-use mathlib.Core.Path.{◌≡◌, refl, sym, ap, subst, ◌∙◌}
+use mathlib.Core.Path.{◌≡◌, refl, sym, ap, ◌∙◌}
 use mathlib.Core.Bool.{Bool, true, false, not}
 use mathlib.Core.Option.{Option, none, some}
 use mathlib.Core.List.{List}
@@ -7,7 +7,6 @@ use Prim.Native.Nat.{ℕ}
 use lib.Dec.{T, eqb, eqb→eq, T_not}
 use mir.Facts.{and_yes}
 use Rattle.laws.specs.Slots.{pick}
-use Rattle.path.proofs.Moves.{pick_yes, pick_no}
 use Rattle.model.specs.Things as things
 use Rattle.model.specs.Things.{State}
 use Rattle.model.specs.Refusals.{Request, bad_operand, granted, provisions}
@@ -15,12 +14,15 @@ use Rattle.model.specs.Image.{load_added}
 use Rattle.model.specs.Run as run
 use Rattle.tables.specs.declared.Dossier.{Dossier}
 use Rattle.tables.specs.declared.Clipboard.{Clipboard}
-use Rattle.tables.specs.View.{view_dossier, view_clipboard, clipboard_of, ClipboardSound}
+use Rattle.tables.specs.View.{view_clipboard, clipboard_of, ClipboardSound}
 use Rattle.image.specs.declared.Loaded.{Loaded}
 use Rattle.image.specs.View.{loaded_of}
 use Rattle.state.specs.declared.Session.{Session}
 use Rattle.state.specs.declared.Request as structs
 use Rattle.state.specs.declared.Stepped.{Stepped}
+use Rattle.std.specs.Prelude.{Ok, Err}
+use Rattle.state.specs.declared.refusal.Refusal.{Refusal}
+use Rattle.state.specs.declared.refusal.Refusal.TheVariants.{BadRecord}
 use Rattle.state.specs.View.{view_request, view_session, session_of, SessionSound}
 use Rattle.state.specs.Calls.{stepped_of}
 use Rattle.state.specs.Parts.{clipped_in}
@@ -29,9 +31,8 @@ use Rattle.roundtrip.proofs.Checks.{not_not}
 use Rattle.twin.proofs.Refusal.{judged, outcome}
 use Rattle.twin.proofs.Requests.{numbered}
 use Rattle.deeds.proofs.Left.{clipboard_same}
-use Rattle.enforce.specs.declared.Laden.{Laden}
 use Rattle.enforce.specs.Requests.{left_of, Pastes, from_of, with_of, laden_of}
-use Rattle.enforce.proofs.Placing.{bad_image, good_image, looked, not_looked, adder}
+use Rattle.enforce.proofs.Placing.{Held, bad_image, good_image, looked, not_looked, adder}
 use Rattle.session.specs.Requests.{Carries, laden_step}
 
 -- ---- the number of a request that looks at its image
@@ -91,20 +92,22 @@ clipped_sound : {s : Session} {c : Clipboard} → SessionSound s → ClipboardSo
 clipped_sound h k = record { model = run.with_clipboard k.model h.model; same = λ i. clipped_in (k.same i) (h.same i); fits = record { one = h.fits.one; two = h.fits.two; clipboard = k.fits; rows = h.fits.rows; agreements = h.fits.agreements; entries = h.fits.entries; log = h.fits.log } }
 
 -- ---- request 17's image, laden
-module _ (s : Session) (l : Laden) (w : Carries s l) where
-  abbrev r : Request
-  r = view_request l.request
+module _ (s : Session) (r : structs.Request) (c : Clipboard) (w : Carries s r c) where
+  pub laid_out_lem : SessionSound (clipped_in c s) × Pastes (view_request r) (view_clipboard c)
+  laid_out_lem = (clipped_sound w.sound w.held, λ p. w.branch)
 
-  pub laid_out_lem : T l.good → SessionSound (clipped_in l.clipboard s) × Pastes r (view_clipboard l.clipboard)
-  laid_out_lem t = (clipped_sound w.sound (w.held t).0, λ p. (w.held t).1)
+  pub laden_left : ((from_of (clipped_in c s) (view_request r) (view_clipboard c)).answer ≡ (laden_step s r c).answer)
+      × (clipped_in s.clipboard (from_of (clipped_in c s) (view_request r) (view_clipboard c)).session ≡ (laden_step s r c).session)
+  laden_left = swapped w.sound (view_request r) (seventeen (view_request r) w.places) c
 
-  pub laden_left : T l.good
-      → ((from_of (clipped_in l.clipboard s) r (view_clipboard l.clipboard)).answer ≡ (laden_step s l).answer)
-      × (clipped_in s.clipboard (from_of (clipped_in l.clipboard s) r (view_clipboard l.clipboard)).session ≡ (laden_step s l).session)
-  laden_left t =
-      let e = sym (pick_yes l.good (from_of s r (view_clipboard l.clipboard)) (record { session = s; answer = l.answer }) t) in
-      let q = swapped w.sound r (seventeen r w.places) l.clipboard in
-      (q.0 ∙ ap (λ (o : Stepped). o.answer) e, q.1 ∙ ap (λ (o : Stepped). o.session) e)
+-- a branch, or a refusal
+as_laden : (b : Bool) (x : Clipboard) (y : Refusal) {c : Clipboard} → pick b (Ok x) (Err y) ≡ Ok c → (b ≡ true) × (x ≡ c)
+as_laden true x y e = (refl, cc)
+as_laden false x y e = absurd (cc)
+
+as_refused : (b : Bool) (x : Clipboard) (y : Refusal) {e : Refusal} → pick b (Ok x) (Err y) ≡ Err e → (b ≡ false) × (y ≡ e)
+as_refused true x y e = absurd (cc)
+as_refused false x y e = (refl, cc)
 
 -- ---- the whole request
 module _ (s : Session) (q : structs.Request) (image : List ℕ) (h : SessionSound s) where
@@ -126,27 +129,25 @@ module _ (s : Session) (q : structs.Request) (image : List ℕ) (h : SessionSoun
   placing : T (not (not (run.places asked))) → T (run.places asked)
   placing t = not_not (run.places asked) (T_not (not (run.places asked)) t)
 
-  pub carries : T (not (not (run.places asked))) → Carries s (laden_of q loaded)
-  carries t =
-      let p = placing t in
-      record {
-        sound = h;
-        places = p;
-        held = λ g. let w = (good_image q.user (adder asked (operands asked p)) image refl (is_true loaded.good g)).1 (laden_of q loaded).clipboard (branch_is g) in (w.sound, w.branch);
-      }
-    where
-      branch_is : T loaded.good → (laden_of q loaded).clipboard ≡ clipboard_of (things.branch (view_dossier loaded.dossier))
-      branch_is g = ap (λ (d : Dossier). record { kind = 1; held = d }) (dossier_same (good_image q.user (adder asked (operands asked (placing t))) image refl (is_true loaded.good g)).0)
+  module _ (t : T (not (not (run.places asked)))) where
+    abbrev user : bad_operand asked ≡ false
+    user = operands asked (placing t)
 
-  pub carries_left : T (not (not (run.places asked))) → ((laden_step s (laden_of q loaded)).answer ≡ (stepped_of s (run.request asked image)).answer) × ((laden_step s (laden_of q loaded)).session ≡ (stepped_of s (run.request asked image)).session)
-  carries_left t = let e = go loaded.good refl ∙ looked s asked image (placing t) in (ap (λ (o : Stepped). o.answer) e, ap (λ (o : Stepped). o.session) e)
-    where
-      go : (b : Bool) → loaded.good ≡ b → laden_step s (laden_of q loaded) ≡ with_of s asked (run.as_branch (load_added q.user image))
-      go true e =
-          let g = subst T (sym e) tt in
-          let w = (good_image q.user (adder asked (operands asked (placing t))) image refl e).1 (laden_of q loaded).clipboard (branch_is g) in
-          pick_yes loaded.good _ _ g ∙ ap (with_of s asked) w.seen
-        where
-          branch_is : T loaded.good → (laden_of q loaded).clipboard ≡ clipboard_of (things.branch (view_dossier loaded.dossier))
-          branch_is g = ap (λ (d : Dossier). record { kind = 1; held = d }) (dossier_same (good_image q.user (adder asked (operands asked (placing t))) image refl e).0)
-      go false e = pick_no loaded.good _ _ (subst T e) ∙ bad_image q.user (adder asked (operands asked (placing t))) image refl s asked h e
+    module _ {c : Clipboard} (e : laden_of loaded ≡ Ok c) where
+      laid : Held q.user (adder asked user) image refl c
+      laid =
+          let w = as_laden loaded.good (record { kind = 1; held = loaded.dossier }) (BadRecord loaded.«record») e in
+          let g = good_image q.user (adder asked user) image refl w.0 in
+          g.1 c (sym w.1 ∙ ap (λ (d : Dossier). record { kind = 1; held = d }) (dossier_same g.0))
+
+      pub carries : Carries s q c
+      carries = record { sound = h; places = placing t; held = laid.sound; branch = laid.branch }
+
+      pub carries_left : ((laden_step s q c).answer ≡ (stepped_of s (run.request asked image)).answer) × ((laden_step s q c).session ≡ (stepped_of s (run.request asked image)).session)
+      carries_left = let f = ap (with_of s asked) laid.seen ∙ looked s asked image (placing t) in (ap (λ (o : Stepped). o.answer) f, ap (λ (o : Stepped). o.session) f)
+
+    pub refused_left : {e : Refusal} → laden_of loaded ≡ Err e → (Err e ≡ (stepped_of s (run.request asked image)).answer) × (s ≡ (stepped_of s (run.request asked image)).session)
+    refused_left {e} k =
+        let w = as_refused loaded.good (record { kind = 1; held = loaded.dossier }) (BadRecord loaded.«record») k in
+        let f = ap (λ (x : Refusal). record { session = s; answer = Err x }) (sym w.1) ∙ bad_image q.user (adder asked user) image refl s asked h w.0 ∙ looked s asked image (placing t) in
+        (ap (λ (o : Stepped). o.answer) f, ap (λ (o : Stepped). o.session) f)

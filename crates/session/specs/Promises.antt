@@ -1,25 +1,15 @@
 -- What each public call promises, and what a run of calls gives by these promises.
-use Rattle.std.specs.Prelude.{◌≡◌, List, [], ◌∷◌, ℕ}
+use Rattle.std.specs.Prelude.{◌≡◌, List, [], ◌∷◌, ℕ, Ok, Err}
 use Rattle.model.specs.Things.{fresh}
 use Rattle.model.specs.Run.{Call, start, new, load, save, save_clipboard, sign, take_log, request, ask, done, Reply, reply, step}
 use Rattle.state.specs.declared.Session.{Session}
-use Rattle.state.specs.declared.Outcome.{Outcome}
-use Rattle.state.specs.declared.Outcome.TheVariants.{Done, Contents, ValueRead, Wrote, Refused, BadRecord}
-use Rattle.state.specs.declared.Answer.{Answer}
-use Rattle.state.specs.View.{session_of, answer_of}
+use Rattle.state.specs.View.{session_of, Answer, answer_of}
 use Rattle.state.specs.Calls.{buffer_after, Steps, Writes}
 
--- an answer that is a refusal: a number, or 12 with its record
-abbrev pub refusing : Outcome → Type 0
-refusing Done = ⊥
-refusing (Contents children) = ⊥
-refusing (ValueRead v) = ⊥
-refusing (Wrote n) = ⊥
-refusing (Refused n) = Unit {0}
-refusing (BadRecord n) = Unit {0}
-
+-- an answer that is a refusal
 abbrev pub Refuses : Answer → Type 0
-Refuses a = refusing a.outcome
+Refuses (Ok r) = ⊥
+Refuses (Err e) = Unit {0}
 
 -- what a call gives: its answer, and each image and buffer that was lent to it, as it is left
 pub record Gave : Type 0 where

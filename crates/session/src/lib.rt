@@ -29,8 +29,8 @@ pub fn request(s: &mut Session, r: Request, image: &[u8]) -> Answer
     if stays(r) {
         return perform(s, r);
     }
-    let l = as_branch(r, image);
-    place(s, l)
+    let held = as_branch(r, image)?;
+    place(s, r, held)
 }
 
 // Make dossier n new with an owner.

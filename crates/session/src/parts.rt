@@ -1,19 +1,20 @@
 // A guarded request on a lent session, by parts: the dossier that it names is looked at where it stands, and only what the request changes is stored back.
 // A function that is handed the session takes a part out, calls by value, and hands the session on or stores what came out.
-ghost use Rattle.std.specs.Prelude.{◌≡◌, ◌⊎◌};
+ghost use Rattle.std.specs.Prelude.{◌≡◌, ◌⊎◌, Ok};
 ghost use Rattle.model.specs.Things as things;
 ghost use Rattle.tables.specs.View.{view_clipboard};
-ghost use Rattle.state.specs.declared.Outcome.TheVariants.{Done};
-ghost use Rattle.state.specs.View.{SessionSound, plain_of, view_request};
+ghost use Rattle.state.specs.declared.Reply.TheVariants.{Done};
+ghost use Rattle.state.specs.View.{SessionSound, view_request};
 ghost use Rattle.state.specs.Parts.{clipped_in, numbered_in, replaced_in};
+ghost use Rattle.deeds.specs.declared.classes.Class.TheVariants.{ChangeAttributes, ChangePermissions, Copy, Cut, Edit, Paste};
 ghost use Rattle.enforce.specs.Requests.{Pastes, from_of};
-ghost use Rattle.session.specs.Requests.{Carries, Granted, Laid, Stands, Weighs, copied_in, done_of, edited_in, laden_step, read_in, with_attributes, with_permissions};
+ghost use Rattle.session.specs.Requests.{Carries, Granted, Laid, Stands, Weighs, copied_in, deed_of, edited_in, laden_step, read_in, with_attributes, with_permissions};
 
 use deeds::classes::{
-    AttributesOut, DossierOut, PermissionsOut, Verdict, attributes_at, copied_at, edited_at, noted,
-    pasted_at, permissions_at, read_at,
+    AttributesOut, Class, DossierOut, PermissionsOut, Verdict, attributes_at, copied_at, edited_at,
+    noted, pasted_at, permissions_at, read_at,
 };
-use enforce::{Laden, done, quiet, refused, weighed};
+use enforce::{done, quiet, weighed};
 use state::{Answer, Request, Session};
 use tables::{Clipboard, Dossier};
 
@@ -30,7 +31,7 @@ fn dossier_in(s: &mut Session, n: u8) -> Dossier
 }
 
 fn put_dossier(s: &mut Session, o: DossierOut) -> Answer
-    ensures { (result ≡ plain_of Done) × (s.new ≡ replaced_in o.dossier o.whole s.old) }
+    ensures { (result ≡ Ok Done) × (s.new ≡ replaced_in o.dossier o.whole s.old) }
 {
     let n = o.dossier;
     if n == 1 {
@@ -42,7 +43,7 @@ fn put_dossier(s: &mut Session, o: DossierOut) -> Answer
 }
 
 fn put_attributes(s: &mut Session, o: AttributesOut) -> Answer
-    ensures { (result ≡ plain_of Done) × (s.new ≡ replaced_in o.dossier (with_attributes (numbered_in o.dossier s.old) o.attributes) s.old) }
+    ensures { (result ≡ Ok Done) × (s.new ≡ replaced_in o.dossier (with_attributes (numbered_in o.dossier s.old) o.attributes) s.old) }
 {
     let n = o.dossier;
     if n == 1 {
@@ -54,7 +55,7 @@ fn put_attributes(s: &mut Session, o: AttributesOut) -> Answer
 }
 
 fn put_permissions(s: &mut Session, o: PermissionsOut) -> Answer
-    ensures { (result ≡ plain_of Done) × (s.new ≡ replaced_in o.dossier (with_permissions (numbered_in o.dossier s.old) o.permissions) s.old) }
+    ensures { (result ≡ Ok Done) × (s.new ≡ replaced_in o.dossier (with_permissions (numbered_in o.dossier s.old) o.permissions) s.old) }
 {
     let n = o.dossier;
     if n == 1 {
@@ -66,7 +67,7 @@ fn put_permissions(s: &mut Session, o: PermissionsOut) -> Answer
 }
 
 fn put_clipboard(s: &mut Session, c: Clipboard) -> Answer
-    ensures { (result ≡ plain_of Done) × (s.new ≡ clipped_in c s.old) }
+    ensures { (result ≡ Ok Done) × (s.new ≡ clipped_in c s.old) }
 {
     s.clipboard = c;
     done()
@@ -84,8 +85,8 @@ fn read(s: &mut Session, v: Verdict) -> Answer
 }
 
 fn change_attributes(s: &mut Session, v: Verdict) -> Answer
-    requires { Granted s.old v × (v.class ≡ 2) }
-    ensures { (result ≡ plain_of Done) × (s.new ≡ replaced_in v.dossier (edited_in s.old v things.empty) s.old) }
+    requires { Granted s.old v × (v.class ≡ ChangeAttributes) }
+    ensures { (result ≡ Ok Done) × (s.new ≡ replaced_in v.dossier (edited_in s.old v things.empty) s.old) }
 {
     let n = v.dossier;
     let d = dossier_in(s, n);
@@ -94,8 +95,8 @@ fn change_attributes(s: &mut Session, v: Verdict) -> Answer
 }
 
 fn change_permissions(s: &mut Session, v: Verdict) -> Answer
-    requires { Granted s.old v × (v.class ≡ 3) }
-    ensures { (result ≡ plain_of Done) × (s.new ≡ replaced_in v.dossier (edited_in s.old v things.empty) s.old) }
+    requires { Granted s.old v × (v.class ≡ ChangePermissions) }
+    ensures { (result ≡ Ok Done) × (s.new ≡ replaced_in v.dossier (edited_in s.old v things.empty) s.old) }
 {
     let n = v.dossier;
     let d = dossier_in(s, n);
@@ -104,8 +105,8 @@ fn change_permissions(s: &mut Session, v: Verdict) -> Answer
 }
 
 fn edit(s: &mut Session, v: Verdict) -> Answer
-    requires { Granted s.old v × ((v.class ≡ 4) ⊎ (v.class ≡ 7)) }
-    ensures { (result ≡ plain_of Done) × (s.new ≡ replaced_in v.dossier (edited_in s.old v things.empty) s.old) }
+    requires { Granted s.old v × ((v.class ≡ Edit) ⊎ (v.class ≡ Cut)) }
+    ensures { (result ≡ Ok Done) × (s.new ≡ replaced_in v.dossier (edited_in s.old v things.empty) s.old) }
 {
     let n = v.dossier;
     let d = dossier_in(s, n);
@@ -114,8 +115,8 @@ fn edit(s: &mut Session, v: Verdict) -> Answer
 }
 
 fn paste(s: &mut Session, v: Verdict) -> Answer
-    requires { Granted s.old v × Laid s.old v × (v.class ≡ 5) }
-    ensures { (result ≡ plain_of Done) × (s.new ≡ replaced_in v.dossier (edited_in s.old v (view_clipboard s.old.clipboard)) s.old) }
+    requires { Granted s.old v × Laid s.old v × (v.class ≡ Paste) }
+    ensures { (result ≡ Ok Done) × (s.new ≡ replaced_in v.dossier (edited_in s.old v (view_clipboard s.old.clipboard)) s.old) }
 {
     let n = v.dossier;
     let d = dossier_in(s, n);
@@ -124,8 +125,8 @@ fn paste(s: &mut Session, v: Verdict) -> Answer
 }
 
 fn copy(s: &mut Session, v: Verdict) -> Answer
-    requires { Granted s.old v × ((v.class ≡ 6) ⊎ (v.class ≡ 7)) }
-    ensures { (result ≡ plain_of Done) × (s.new ≡ clipped_in (copied_in s.old v things.empty) s.old) }
+    requires { Granted s.old v × ((v.class ≡ Copy) ⊎ (v.class ≡ Cut)) }
+    ensures { (result ≡ Ok Done) × (s.new ≡ clipped_in (copied_in s.old v things.empty) s.old) }
 {
     let n = v.dossier;
     let d = dossier_in(s, n);
@@ -135,41 +136,27 @@ fn copy(s: &mut Session, v: Verdict) -> Answer
 
 // A cut is a copy, then a delete.
 fn cut(s: &mut Session, v: Verdict) -> Answer
-    requires { Granted s.old v × (v.class ≡ 7) }
-    ensures { (result ≡ plain_of Done) × (s.new ≡ replaced_in v.dossier (edited_in s.old v things.empty) (clipped_in (copied_in s.old v things.empty) s.old)) }
+    requires { Granted s.old v × (v.class ≡ Cut) }
+    ensures { (result ≡ Ok Done) × (s.new ≡ replaced_in v.dossier (edited_in s.old v things.empty) (clipped_in (copied_in s.old v things.empty) s.old)) }
 {
     let a = copy(s, v);
     edit(s, v)
 }
 
-// Class 0 is refused.
 fn deed(s: &mut Session, v: Verdict) -> Answer
     requires { Stands s.old v }
-    ensures { (result ≡ (done_of s.old v).answer) × (s.new ≡ (done_of s.old v).session) }
+    ensures { (result ≡ (deed_of s.old v).answer) × (s.new ≡ (deed_of s.old v).session) }
 {
     let class = v.class;
-    if class == 1 {
-        return read(s, v);
+    match class {
+        Class::Read => read(s, v),
+        Class::ChangeAttributes => change_attributes(s, v),
+        Class::ChangePermissions => change_permissions(s, v),
+        Class::Edit => edit(s, v),
+        Class::Paste => paste(s, v),
+        Class::Copy => copy(s, v),
+        Class::Cut => cut(s, v),
     }
-    if class == 2 {
-        return change_attributes(s, v);
-    }
-    if class == 3 {
-        return change_permissions(s, v);
-    }
-    if class == 4 {
-        return edit(s, v);
-    }
-    if class == 5 {
-        return paste(s, v);
-    }
-    if class == 6 {
-        return copy(s, v);
-    }
-    if class == 7 {
-        return cut(s, v);
-    }
-    refused(v)
 }
 
 // ---- the request
@@ -196,23 +183,19 @@ pub fn perform(s: &mut Session, r: Request) -> Answer
 {
     let n = r.dossier;
     let d = dossier_in(s, n);
-    let v = weighed(d, s.clipboard, s.signatures, s.log, r);
+    let told = weighed(d, s.clipboard, s.signatures, s.log, r);
+    let v = told?;
     act(s, v)
 }
 
 // Request 17 pastes its image: it lies on the clipboard for the time of the paste.
-pub fn place(s: &mut Session, l: Laden) -> Answer
-    requires { Carries s.old l }
-    ensures { (result ≡ (laden_step s.old l).answer) × (s.new ≡ (laden_step s.old l).session) }
+pub fn place(s: &mut Session, r: Request, c: Clipboard) -> Answer
+    requires { Carries s.old r c }
+    ensures { (result ≡ (laden_step s.old r c).answer) × (s.new ≡ (laden_step s.old r c).session) }
 {
-    let good = l.good;
-    if good {
-        let kept = s.clipboard;
-        s.clipboard = l.clipboard;
-        let r = l.request;
-        let a = perform(s, r);
-        s.clipboard = kept;
-        return a;
-    }
-    l.answer
+    let kept = s.clipboard;
+    s.clipboard = c;
+    let a = perform(s, r);
+    s.clipboard = kept;
+    a
 }

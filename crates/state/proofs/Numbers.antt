@@ -1,5 +1,5 @@
 -- The model refuses with numbers of the table alone, each the number of its refusal: what is answered has the model's number. Assumes nothing.
-use mathlib.Core.Path.{◌≡◌, refl, sym}
+use mathlib.Core.Path.{◌≡◌, refl, sym, ap, subst, ◌∙◌}
 use mathlib.Core.Bool.{Bool, true, false, ◌||◌, ◌&&◌, not}
 use mathlib.Core.Option.{Option, none, some}
 use mathlib.Core.List.{List, [], ◌∷◌, ◌++◌, map}
@@ -55,6 +55,14 @@ refusal_back TooDeep h = refl
 refusal_back ChildrenFull h = refl
 refusal_back AttributesFull h = refl
 refusal_back PermissionsFull h = refl
+
+-- the table has no record
+twelve : (k : ℕ) → refusal_of 12 ≡ BadRecord k → ⊥
+unfolding refusal_of
+twelve k e = cc
+
+pub no_record : (n k : ℕ) → T (numbered n) → refusal_of n ≡ BadRecord k → ⊥
+no_record n k h e = let f : n ≡ 12 = sym (number_back n h) ∙ ap number_of e in twelve k (subst (λ (m : ℕ). refusal_of m ≡ BadRecord k) f e)
 
 -- ---- the numbers that the model refuses with
 abbrev pub Numbered : run.Answer → Type 0

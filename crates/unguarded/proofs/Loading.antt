@@ -19,8 +19,11 @@ use Rattle.tables.specs.View.{dossier_of, DossierSound}
 use Rattle.image.specs.declared.BadRecord as image
 use Rattle.image.specs.View.{loaded_of}
 use Rattle.state.specs.declared.DossiersOut.{DossiersOut}
-use Rattle.state.specs.declared.Outcome.TheVariants.{Done, Refused, BadRecord}
-use Rattle.state.specs.View.{plain_of, answer_of}
+use Rattle.std.specs.Prelude.{Ok, Err}
+use Rattle.state.specs.declared.Reply.TheVariants.{Done}
+use Rattle.state.specs.declared.refusal.Refusal.TheVariants.{BadOperand, BadRecord}
+use Rattle.state.specs.Refusals.{refusal_of}
+use Rattle.state.specs.View.{answer_of}
 use Rattle.state.specs.Calls.{having, dossiers_after}
 use Rattle.state.proofs.Sessions.{dossier_same}
 use Rattle.unguarded.proofs.Renewing.{with_new}
@@ -59,28 +62,28 @@ by one two n image fair l =
     record { one = dossier_of out.0.one; two = dossier_of out.0.two; answer = answer_of out.1.answer }
 
 module _ {one two : Dossier} (h : DossierSound one) (k : DossierSound two) (n : ℕ) (image : List ℕ) where
-  pub load_refused : dossier_good n ≡ false → record { one = one; two = two; answer = plain_of (Refused 1) } ≡ dossiers_after one two (run.load n image)
-  unfolding step by
+  pub load_refused : dossier_good n ≡ false → record { one = one; two = two; answer = Err BadOperand } ≡ dossiers_after one two (run.load n image)
+  unfolding step by refusal_of
   load_refused e =
-      (λ i. record { one = dossier_same h i; two = dossier_same k i; answer = plain_of (Refused 1) }) ∙ ap (λ fair. by one two n image fair (images.load image)) (sym e)
+      (λ i. record { one = dossier_same h i; two = dossier_same k i; answer = Err BadOperand }) ∙ ap (λ fair. by one two n image fair (images.load image)) (sym e)
 
-  pub load_bad : (j : ℕ) → dossier_good n ≡ true → images.load image ≡ bad j → record { one = one; two = two; answer = plain_of (BadRecord j) } ≡ dossiers_after one two (run.load n image)
-  unfolding step by
-  load_bad j e m = (λ i. record { one = dossier_same h i; two = dossier_same k i; answer = plain_of (BadRecord j) }) ∙ (λ i. by one two n image (sym e i) (sym m i))
+  pub load_bad : (j : ℕ) → dossier_good n ≡ true → images.load image ≡ bad j → record { one = one; two = two; answer = Err (BadRecord j) } ≡ dossiers_after one two (run.load n image)
+  unfolding step by refusal_of
+  load_bad j e m = (λ i. record { one = dossier_same h i; two = dossier_same k i; answer = Err (BadRecord j) }) ∙ (λ i. by one two n image (sym e i) (sym m i))
 
   -- the dossier in the first place, or in the second
   placed : (d : things.Dossier) (first : Bool) → eqb n 1 ≡ first
-      → record { one = dossier_of (with_new first d (having one two)).one; two = dossier_of (with_new first d (having one two)).two; answer = plain_of Done } ≡ by one two n image true (good d)
+      → record { one = dossier_of (with_new first d (having one two)).one; two = dossier_of (with_new first d (having one two)).two; answer = Ok Done } ≡ by one two n image true (good d)
   unfolding by
-  placed d first e = λ i. record { one = dossier_of (with_new (sym e i) d (having one two)).one; two = dossier_of (with_new (sym e i) d (having one two)).two; answer = plain_of Done }
+  placed d first e = λ i. record { one = dossier_of (with_new (sym e i) d (having one two)).one; two = dossier_of (with_new (sym e i) d (having one two)).two; answer = Ok Done }
 
   module _ {x : Dossier} {d : things.Dossier} (is : x ≡ dossier_of d) (e : dossier_good n ≡ true) (m : images.load image ≡ good d) where
     whole : by one two n image true (good d) ≡ dossiers_after one two (run.load n image)
-    unfolding step by
+    unfolding step by refusal_of
     whole = λ i. by one two n image (sym e i) (sym m i)
 
-    pub load_one : eqb n 1 ≡ true → record { one = x; two = two; answer = plain_of Done } ≡ dossiers_after one two (run.load n image)
-    load_one f = (λ i. record { one = is i; two = dossier_same k i; answer = plain_of Done }) ∙ placed d true f ∙ whole
+    pub load_one : eqb n 1 ≡ true → record { one = x; two = two; answer = Ok Done } ≡ dossiers_after one two (run.load n image)
+    load_one f = (λ i. record { one = is i; two = dossier_same k i; answer = Ok Done }) ∙ placed d true f ∙ whole
 
-    pub load_two : eqb n 1 ≡ false → record { one = one; two = x; answer = plain_of Done } ≡ dossiers_after one two (run.load n image)
-    load_two f = (λ i. record { one = dossier_same h i; two = is i; answer = plain_of Done }) ∙ placed d false f ∙ whole
+    pub load_two : eqb n 1 ≡ false → record { one = one; two = x; answer = Ok Done } ≡ dossiers_after one two (run.load n image)
+    load_two f = (λ i. record { one = dossier_same h i; two = is i; answer = Ok Done }) ∙ placed d false f ∙ whole

@@ -14,8 +14,11 @@ use Rattle.model.specs.Run.{step, or_refused, dossier_good}
 use Rattle.tables.specs.declared.Dossier.{Dossier}
 use Rattle.tables.specs.View.{dossier_of, DossierSound}
 use Rattle.state.specs.declared.DossiersOut.{DossiersOut}
-use Rattle.state.specs.declared.Outcome.TheVariants.{Done, Refused}
-use Rattle.state.specs.View.{plain_of, answer_of}
+use Rattle.std.specs.Prelude.{Ok, Err}
+use Rattle.state.specs.declared.Reply.TheVariants.{Done}
+use Rattle.state.specs.declared.refusal.Refusal.TheVariants.{BadOperand}
+use Rattle.state.specs.Refusals.{refusal_of}
+use Rattle.state.specs.View.{answer_of}
 use Rattle.state.specs.Calls.{having, dossiers_after}
 use Rattle.state.proofs.Sessions.{dossier_same}
 
@@ -47,19 +50,19 @@ by one two owner good first =
     record { one = dossier_of out.0.one; two = dossier_of out.0.two; answer = answer_of out.1.answer }
 
 module _ {one two : Dossier} (h : DossierSound one) (k : DossierSound two) where
-  pub new_refused : (n owner : ℕ) → (dossier_good n && user_good owner) ≡ false → record { one = one; two = two; answer = plain_of (Refused 1) } ≡ dossiers_after one two (run.new n owner)
-  unfolding step by
+  pub new_refused : (n owner : ℕ) → (dossier_good n && user_good owner) ≡ false → record { one = one; two = two; answer = Err BadOperand } ≡ dossiers_after one two (run.new n owner)
+  unfolding step by refusal_of
   new_refused n owner e =
-      (λ i. record { one = dossier_same h i; two = dossier_same k i; answer = plain_of (Refused 1) }) ∙ ap (λ good. by one two owner good (eqb n 1)) (sym e)
+      (λ i. record { one = dossier_same h i; two = dossier_same k i; answer = Err BadOperand }) ∙ ap (λ good. by one two owner good (eqb n 1)) (sym e)
 
   pub new_one : {d : Dossier} (n owner : ℕ) → d ≡ dossier_of (things.bare owner) → (dossier_good n && user_good owner) ≡ true → eqb n 1 ≡ true
-      → record { one = d; two = two; answer = plain_of Done } ≡ dossiers_after one two (run.new n owner)
-  unfolding step by
+      → record { one = d; two = two; answer = Ok Done } ≡ dossiers_after one two (run.new n owner)
+  unfolding step by refusal_of
   new_one n owner d e f =
-      (λ i. record { one = d i; two = dossier_same k i; answer = plain_of Done }) ∙ (λ i. by one two owner (sym e i) (sym f i))
+      (λ i. record { one = d i; two = dossier_same k i; answer = Ok Done }) ∙ (λ i. by one two owner (sym e i) (sym f i))
 
   pub new_two : {d : Dossier} (n owner : ℕ) → d ≡ dossier_of (things.bare owner) → (dossier_good n && user_good owner) ≡ true → eqb n 1 ≡ false
-      → record { one = one; two = d; answer = plain_of Done } ≡ dossiers_after one two (run.new n owner)
-  unfolding step by
+      → record { one = one; two = d; answer = Ok Done } ≡ dossiers_after one two (run.new n owner)
+  unfolding step by refusal_of
   new_two n owner d e f =
-      (λ i. record { one = dossier_same h i; two = d i; answer = plain_of Done }) ∙ (λ i. by one two owner (sym e i) (sym f i))
+      (λ i. record { one = dossier_same h i; two = d i; answer = Ok Done }) ∙ (λ i. by one two owner (sym e i) (sym f i))

@@ -1,12 +1,11 @@
 // The calls without a guard, each on the parts of the session that it uses. Signing and taking the log stand with what they change: state::signatures, state::entries.
 #![tactic(auto)]
 
-ghost use Rattle.std.specs.Prelude.{◌≡◌};
+ghost use Rattle.std.specs.Prelude.{◌≡◌, Err};
 ghost use Rattle.model.specs.Things as things;
 ghost use Rattle.model.specs.Run as run;
 ghost use Rattle.tables.specs.View.{ClipboardSound, DossierSound};
-ghost use Rattle.state.specs.declared.Outcome.TheVariants.{Refused};
-ghost use Rattle.state.specs.View.{plain_of, session_of};
+ghost use Rattle.state.specs.View.{session_of};
 ghost use Rattle.state.specs.Calls.{answer_in, buffer_in, dossiers_after, having, having_clipboard};
 ghost use Rattle.unguarded.specs.Calls.{answer_for};
 
@@ -14,7 +13,8 @@ use edits::{bare, empty_clipboard};
 use image::load;
 use save::{save, save_clipboard};
 use state::entries::no_entries;
-use state::{Agreements, Answer, DossiersOut, Outcome, Session, plain};
+use state::refusal::Refusal;
+use state::{Agreements, Answer, DossiersOut, Reply, Session};
 use tables::{Clipboard, Dossier};
 
 // A fresh session: two dossiers of a bare root owned by user 1, and empty clipboard, signatures and log.
@@ -37,26 +37,26 @@ pub fn renewed(one: Dossier, two: Dossier, n: u8, owner: u8) -> DossiersOut
     ensures { result ≡ dossiers_after one two (run.new n owner) }
 {
     if owner < 1 {
-        return refused(one, two, 1);
+        return refused(one, two, Refusal::BadOperand);
     }
     if 64 < owner {
-        return refused(one, two, 1);
+        return refused(one, two, Refusal::BadOperand);
     }
     if n == 1 {
         return DossiersOut {
             one: bare(owner),
             two: two,
-            answer: plain(Outcome::Done),
+            answer: Ok(Reply::Done),
         };
     }
     if n == 2 {
         return DossiersOut {
             one: one,
             two: bare(owner),
-            answer: plain(Outcome::Done),
+            answer: Ok(Reply::Done),
         };
     }
-    refused(one, two, 1)
+    refused(one, two, Refusal::BadOperand)
 }
 
 // Load dossier n from an image. Refused 1 for a dossier out of range, 12 with the first bad record.
@@ -65,18 +65,18 @@ pub fn loaded(one: Dossier, two: Dossier, n: u8, image: &[u8]) -> DossiersOut
     ensures { result ≡ dossiers_after one two (run.load n image.now) }
 {
     if n < 1 {
-        return refused(one, two, 1);
+        return refused(one, two, Refusal::BadOperand);
     }
     if 2 < n {
-        return refused(one, two, 1);
+        return refused(one, two, Refusal::BadOperand);
     }
     let d = match load(image) {
         Ok(d) => d,
         Err(bad) => {
             return DossiersOut {
-                one: one,
-                two: two,
-                answer: plain(Outcome::BadRecord(bad.number)),
+                one,
+                two,
+                answer: Err(Refusal::BadRecord(bad.number)),
             };
         }
     };
@@ -84,13 +84,13 @@ pub fn loaded(one: Dossier, two: Dossier, n: u8, image: &[u8]) -> DossiersOut
         return DossiersOut {
             one: d,
             two: two,
-            answer: plain(Outcome::Done),
+            answer: Ok(Reply::Done),
         };
     }
     DossiersOut {
         one: one,
         two: d,
-        answer: plain(Outcome::Done),
+        answer: Ok(Reply::Done),
     }
 }
 
@@ -105,7 +105,7 @@ pub fn saved(one: Dossier, two: Dossier, n: u8, out: &mut [u8]) -> Answer
     if n == 2 {
         return written(save(two, out));
     }
-    plain(Outcome::Refused(1))
+    Err(Refusal::BadOperand)
 }
 
 // Save the clipboard: how many bytes were written. Refused 9 where the buffer is too short.
@@ -123,18 +123,18 @@ fn written(w: Option<usize>) -> Answer
     ensures { result ≡ answer_for w }
 {
     match w {
-        None => plain(Outcome::Refused(9)),
-        Some(n) => plain(Outcome::Wrote(n)),
+        None => Err(Refusal::ShortBuffer),
+        Some(n) => Ok(Reply::Wrote(n)),
     }
 }
 
-// The dossiers as they came, and the number alone.
-fn refused(one: Dossier, two: Dossier, number: u8) -> DossiersOut
-    ensures { result ≡ record { one = one; two = two; answer = plain_of (Refused number) } }
+// The dossiers as they came, and the refusal.
+fn refused(one: Dossier, two: Dossier, refusal: Refusal) -> DossiersOut
+    ensures { result ≡ record { one = one; two = two; answer = Err refusal } }
 {
     DossiersOut {
-        one: one,
-        two: two,
-        answer: plain(Outcome::Refused(number)),
+        one,
+        two,
+        answer: Err(refusal),
     }
 }

@@ -4,8 +4,8 @@ use mathlib.Core.Path.{◌≡◌, sym, ap, ◌∙◌}
 use mathlib.Core.Bool.{true}
 use Rattle.model.specs.Image as images
 use Rattle.model.specs.Run.{dossier_good}
-use Rattle.state.specs.declared.Outcome.TheVariants.{BadRecord}
-use Rattle.state.specs.View.{plain_of}
+use Rattle.std.specs.Prelude.{Err}
+use Rattle.state.specs.declared.refusal.Refusal.TheVariants.{BadRecord}
 use Rattle.unguarded.proofs.Loading.{found_bad, found_good, load_refused, load_bad, load_one, load_two}
 use Rattle.unguarded.proofs.loaded.Goals as goal
 use Rattle.unguarded.proofs.loaded.Goals.{After-load}
@@ -25,17 +25,14 @@ fair c = simp (le-leb 1 c.args.n c.if-n-lt1.false, le-leb c.args.n 2 c.if-n-gt2.
 
 pub returns-in-Err : goal.returns-in-Err
 returns-in-Err c =
-    ap (λ a. record { one = c.args.one; two = c.args.two; answer = a }) c.plain.ensures
-    ∙ load_bad c.requires.0 c.requires.1 c.args.n c.args.image.now _ (fair (goal.at.returns-in-Err c).After-load) (found_bad (images.load c.args.image.now) (sym c.in-Err.is ∙ c.load.ensures))
+    load_bad c.requires.0 c.requires.1 c.args.n c.args.image.now _ (fair (goal.at.returns-in-Err c).After-load) (found_bad (images.load c.args.image.now) (sym c.in-Err.is ∙ c.load.ensures))
 
 pub returns-then-n-eq1 : goal.returns-then-n-eq1
 returns-then-n-eq1 c =
     let g = found_good (images.load c.args.image.now) (sym c.in-Ok.is ∙ c.load.ensures) in
-    ap (λ a. record { one = c.in-Ok.d; two = c.args.two; answer = a }) c.plain-then-n-eq1.ensures
-    ∙ load_one c.requires.0 c.requires.1 c.args.n c.args.image.now g.same (fair (goal.at.returns-then-n-eq1 c).After-load) g.is (eq-eqb _ _ c.if-n-eq1.true)
+    load_one c.requires.0 c.requires.1 c.args.n c.args.image.now g.same (fair (goal.at.returns-then-n-eq1 c).After-load) g.is (eq-eqb _ _ c.if-n-eq1.true)
 
 pub returns : goal.returns
 returns c =
     let g = found_good (images.load c.args.image.now) (sym c.in-Ok.is ∙ c.load.ensures) in
-    ap (λ a. record { one = c.args.one; two = c.in-Ok.d; answer = a }) c.plain-2.ensures
-    ∙ load_two c.requires.0 c.requires.1 c.args.n c.args.image.now g.same (fair (goal.at.returns c).After-load) g.is (ne_eqb _ _ c.if-n-eq1.false)
+    load_two c.requires.0 c.requires.1 c.args.n c.args.image.now g.same (fair (goal.at.returns c).After-load) g.is (ne_eqb _ _ c.if-n-eq1.false)

@@ -22,15 +22,13 @@ pub returns-then-n-eq1 : goal.returns-then-n-eq1
 returns-then-n-eq1 c =
     let one = c.bare.ensures in
     let good : (dossier_good c.args.n && user_good c.args.owner) ≡ true = simp (c.if-n-eq1.true, le-leb 1 c.args.owner c.if-owner-lt1.false, le-leb c.args.owner 64 c.if-owner-gt64.false) in
-    ap (λ a. record { one = c.bare.result; two = c.args.two; answer = a }) c.plain.ensures
-    ∙ new_one c.requires.0 c.requires.1 c.args.n c.args.owner one good (eq-eqb _ _ c.if-n-eq1.true)
+    new_one c.requires.0 c.requires.1 c.args.n c.args.owner one good (eq-eqb _ _ c.if-n-eq1.true)
 
 pub returns-then-n-eq2 : goal.returns-then-n-eq2
 returns-then-n-eq2 c =
     let two = c.bare-then-n-eq2.ensures in
     let good : (dossier_good c.args.n && user_good c.args.owner) ≡ true = simp (c.if-n-eq2.true, le-leb 1 c.args.owner c.if-owner-lt1.false, le-leb c.args.owner 64 c.if-owner-gt64.false) in
-    ap (λ a. record { one = c.args.one; two = c.bare-then-n-eq2.result; answer = a }) c.plain-then-n-eq2.ensures
-    ∙ new_two c.requires.0 c.requires.1 c.args.n c.args.owner two good (ne_eqb _ _ c.if-n-eq1.false)
+    new_two c.requires.0 c.requires.1 c.args.n c.args.owner two good (ne_eqb _ _ c.if-n-eq1.false)
 
 pub returns : goal.returns
 returns c =

@@ -34,4 +34,4 @@ returns-then-n-eq2 c =
 pub returns : goal.returns
 returns c =
     let w = save_refused (having c.args.one c.args.two) c.args.n c.args.out.now (no_dossier c.args.n c.if-n-eq1.false c.if-n-eq2.false) in
-    (c.plain.ensures ∙ w.0, w.1)
+    w

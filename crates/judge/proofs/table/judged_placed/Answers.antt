@@ -1,5 +1,4 @@
 -- `judge::table::judged_placed` meets its contract: the first test that applies, and then those of what is granted. Assumes nothing.
-use mathlib.Core.Path.{sym, ◌∙◌}
 use Rattle.judge.proofs.Order.{refused_2, refused_3, refused_4, refused_5, refused_6}
 use Rattle.judge.proofs.table.judged_placed.Goals as goal
 

@@ -1,5 +1,6 @@
 -- `session::parts::change_attributes` meets its contract: the dossier with its attributes stored is the dossier that the request leaves. Assumes nothing.
 use mathlib.Core.Path.{sym, ap, ap₂, ◌∙◌}
+use Rattle.std.specs.Prelude.{Some}
 use Rattle.model.specs.Things as things
 use Rattle.model.specs.Run as run
 use Rattle.tables.specs.declared.Dossier.{Dossier}
@@ -13,7 +14,7 @@ use Rattle.session.specs.Requests.{with_attributes}
 use Rattle.session.proofs.parts.change_attributes.Goals as goal
 
 pub attributes_at-o-requires : goal.attributes_at-o-requires
-attributes_at-o-requires c = let ok = c.requires in rw c.dossier_in-d.ensures.0 (ok.0.sound, ok.0.valid, ok.0.free, sym ok.0.class ∙ ok.1)
+attributes_at-o-requires c = let ok = c.requires in rw c.dossier_in-d.ensures.0 (ok.0.sound, ok.0.valid, ok.0.free, ok.0.class ∙ ap Some ok.1)
 
 pub returns : goal.returns
 returns c =
@@ -26,5 +27,5 @@ returns c =
       p.0,
       p.1
           ∙ ap₂ (λ (x : AttributesOut) (t : Session). replaced_in x.dossier (with_attributes (numbered_in x.dossier t) x.attributes) t) o c.dossier_in-d.ensures.1
-          ∙ ap (λ (d : Dossier). replaced_in v.dossier d s) (sym (attributes_only (view_request v.request) ok.0.sound things.empty (sym ok.0.class ∙ ok.1))),
+          ∙ ap (λ (d : Dossier). replaced_in v.dossier d s) (sym (attributes_only (view_request v.request) ok.0.sound things.empty (ok.0.class ∙ ap Some ok.1))),
     )

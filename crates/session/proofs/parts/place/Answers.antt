@@ -2,15 +2,14 @@
 use mathlib.Core.Path.{ap, ◌∙◌}
 use Rattle.state.specs.declared.Session.{Session}
 use Rattle.state.specs.Parts.{clipped_in}
-use Rattle.std.proofs.lemmas.Float.{T_from_true}
 use Rattle.session.proofs.Placed.{laid_out_lem, laden_left}
 use Rattle.session.proofs.parts.place.Goals as goal
 
 pub perform-a-requires : goal.perform-a-requires
-perform-a-requires c = laid_out_lem c.args.s.now c.args.l c.requires (T_from_true c.args.l.good c.if-good.true)
+perform-a-requires c = laid_out_lem c.args.s.now c.args.r c.args.c c.requires
 
-pub returns-then-good : goal.returns-then-good
-returns-then-good c =
+pub returns : goal.returns
+returns c =
     let s = c.args.s.now in
-    let w = laden_left s c.args.l c.requires (T_from_true c.args.l.good c.if-good.true) in
+    let w = laden_left s c.args.r c.args.c c.requires in
     (c.perform-a.ensures.0 ∙ w.0, ap (λ (t : Session). clipped_in s.clipboard t) c.perform-a.ensures.1 ∙ w.1)
