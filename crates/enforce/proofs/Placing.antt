@@ -17,10 +17,11 @@ use Rattle.roundtrip.proofs.Adding.{placed_sound}
 use Rattle.tables.specs.declared.Clipboard.{Clipboard}
 use Rattle.tables.specs.View.{view_dossier, dossier_of, DossierSound, view_clipboard, clipboard_of, ClipboardSound}
 use Rattle.tables.proofs.Rows.{view_dossier_lem, view_clipboard_lem}
-use Rattle.image.specs.declared.Loaded.{Loaded}
+use Rattle.tables.specs.declared.Dossier.{Dossier}
+use Rattle.image.specs.declared.BadRecord as image
 use Rattle.image.specs.View.{loaded_of}
 use Rattle.state.specs.declared.Session.{Session}
-use Rattle.std.specs.Prelude.{Err}
+use Rattle.std.specs.Prelude.{Result, Ok, Err}
 use Rattle.state.specs.declared.refusal.Refusal.TheVariants.{BadRecord}
 use Rattle.state.specs.View.{view_session, SessionSound}
 use Rattle.state.specs.Calls.{stepped_of}
@@ -30,16 +31,29 @@ use Rattle.twin.proofs.Requests.{request_common}
 use Rattle.enforce.specs.Requests.{from_of, with_of}
 
 -- ---- an image that was loaded for its user
-module _ (u : ℕ) (h : T (user_good u)) (b : List ℕ) {l : Loaded} (e : l ≡ loaded_of (load_added u b)) where
+abbrev dossier_in : Dossier → Result Dossier image.BadRecord → Dossier
+dossier_in d (Ok x) = x
+dossier_in d (Err k) = d
+
+abbrev number_in : Result Dossier image.BadRecord → ℕ
+number_in (Ok x) = 0
+number_in (Err k) = k.number
+
+abbrev is_good : Result Dossier image.BadRecord → Bool
+is_good (Ok x) = true
+is_good (Err k) = false
+
+module _ (u : ℕ) (h : T (user_good u)) (b : List ℕ) where
   -- a bad one: the record alone
-  pub bad_image : (s : Session) (r : Request) → SessionSound s → l.good ≡ false → record { session = s; answer = Err (BadRecord l.«record») } ≡ with_of s r (run.as_branch (load_added u b))
-  bad_image s r k f = go (load_added u b) refl
+  pub bad_image : {k : image.BadRecord} → Err k ≡ loaded_of (load_added u b) → (s : Session) (r : Request) → SessionSound s
+      → record { session = s; answer = Err (BadRecord k.number) } ≡ with_of s r (run.as_branch (load_added u b))
+  bad_image {k} e s r m = go (load_added u b) refl
     where
-      go : (o : images.Loaded things.Dossier) → load_added u b ≡ o → record { session = s; answer = Err (BadRecord l.«record») } ≡ with_of s r (run.as_branch (load_added u b))
+      go : (o : images.Loaded things.Dossier) → load_added u b ≡ o → record { session = s; answer = Err (BadRecord k.number) } ≡ with_of s r (run.as_branch (load_added u b))
       go (bad n) q =
-          let z = ap (λ (x : Loaded). x.«record») (e ∙ ap loaded_of q) in
-          (λ i. record { session = sym (session_back s k) i; answer = Err (BadRecord (z i)) }) ∙ ap (λ (x : images.Loaded things.Dossier). with_of s r (run.as_branch x)) (sym q)
-      go (good d) q = no (sym (ap (λ (x : Loaded). x.good) (e ∙ ap loaded_of q)) ∙ f)
+          let z : k.number ≡ n = ap number_in (e ∙ ap loaded_of q) in
+          (λ i. record { session = sym (session_back s m) i; answer = Err (BadRecord (z i)) }) ∙ ap (λ (x : images.Loaded things.Dossier). with_of s r (run.as_branch x)) (sym q)
+      go (good d) q = no (sym (ap is_good (e ∙ ap loaded_of q)))
 
   -- a good one: a sound branch
   pub record Held (c : Clipboard) : Type 0 where
@@ -47,13 +61,13 @@ module _ (u : ℕ) (h : T (user_good u)) (b : List ℕ) {l : Loaded} (e : l ≡ 
     pub seen : good (view_clipboard c) ≡ run.as_branch (load_added u b)
     pub branch : T (run.cached (view_clipboard c)).branch
 
-  pub good_image : l.good ≡ true → DossierSound l.dossier × ((c : Clipboard) → c ≡ clipboard_of (things.branch (view_dossier l.dossier)) → Held c)
-  good_image f = go (load_added u b) refl
+  pub good_image : {m : Dossier} → Ok m ≡ loaded_of (load_added u b) → DossierSound m × ((c : Clipboard) → c ≡ clipboard_of (things.branch (view_dossier m)) → Held c)
+  good_image {m} e = go (load_added u b) refl
     where
-      go : (o : images.Loaded things.Dossier) → load_added u b ≡ o → DossierSound l.dossier × ((c : Clipboard) → c ≡ clipboard_of (things.branch (view_dossier l.dossier)) → Held c)
-      go (bad n) q = no (sym (sym (ap (λ (x : Loaded). x.good) (e ∙ ap loaded_of q)) ∙ f))
+      go : (o : images.Loaded things.Dossier) → load_added u b ≡ o → DossierSound m × ((c : Clipboard) → c ≡ clipboard_of (things.branch (view_dossier m)) → Held c)
+      go (bad n) q = no (ap is_good (e ∙ ap loaded_of q))
       go (good d) q =
-          let x : l.dossier ≡ dossier_of d = ap (λ (y : Loaded). y.dossier) (e ∙ ap loaded_of q) in
+          let x : m ≡ dossier_of d = ap (dossier_in m) (e ∙ ap loaded_of q) in
           let s = placed_sound u h b d q in (
             record { model = d; same = x; fits = s },
             λ c p.

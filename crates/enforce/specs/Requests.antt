@@ -17,7 +17,7 @@ use Rattle.state.specs.declared.Stepped.{Stepped}
 use Rattle.state.specs.declared.refusal.Refusal.{Refusal}
 use Rattle.state.specs.declared.refusal.Refusal.TheVariants.{BadOperand, BadRecord}
 use Rattle.state.specs.View.{view_request, view_signatures, view_session, session_of, answer_of}
-use Rattle.image.specs.declared.Loaded.{Loaded}
+use Rattle.image.specs.declared.BadRecord as image
 use Rattle.judge.specs.View.{standing_of, Judged, judged_of}
 use Rattle.deeds.specs.declared.classes.Class.{Class}
 use Rattle.deeds.specs.declared.classes.Verdict.{Verdict}
@@ -59,5 +59,6 @@ weighed_of d c rows log r =
     verdict_of r (judged_of (refusals.refusal q f (run.cached (view_clipboard c)) (standing_of q (view_signatures rows) log.count)) (refusals.granted q f))
 
 -- ---- request 17's image: a branch to paste, or the refusal of a bad one
-abbrev pub laden_of : Loaded → Result Clipboard Refusal
-laden_of l = pick l.good (Ok (record { kind = 1; held = l.dossier })) (Err (BadRecord l.«record»))
+abbrev pub laden_of : Result Dossier image.BadRecord → Result Clipboard Refusal
+laden_of (Ok d) = Ok (record { kind = 1; held = d })
+laden_of (Err b) = Err (BadRecord b.number)

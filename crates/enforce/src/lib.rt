@@ -100,10 +100,8 @@ pub fn stays(r: Request) -> bool
 pub fn as_branch(r: Request, image: &[u8]) -> Result<Clipboard, Refusal>
     ensures { result ≡ laden_of (loaded_of (load_added r.user image.now)) }
 {
-    let l = load_branch(image, r.user);
-    if !l.good {
-        return Err(Refusal::BadRecord(l.record));
+    match load_branch(image, r.user) {
+        Ok(held) => Ok(Clipboard { kind: 1, held }),
+        Err(bad) => Err(Refusal::BadRecord(bad.number)),
     }
-    let held = l.dossier;
-    Ok(Clipboard { kind: 1, held })
 }

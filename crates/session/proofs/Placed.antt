@@ -15,12 +15,12 @@ use Rattle.model.specs.Run as run
 use Rattle.tables.specs.declared.Dossier.{Dossier}
 use Rattle.tables.specs.declared.Clipboard.{Clipboard}
 use Rattle.tables.specs.View.{view_clipboard, clipboard_of, ClipboardSound}
-use Rattle.image.specs.declared.Loaded.{Loaded}
+use Rattle.image.specs.declared.BadRecord as image
 use Rattle.image.specs.View.{loaded_of}
 use Rattle.state.specs.declared.Session.{Session}
 use Rattle.state.specs.declared.Request as structs
 use Rattle.state.specs.declared.Stepped.{Stepped}
-use Rattle.std.specs.Prelude.{Ok, Err}
+use Rattle.std.specs.Prelude.{Result, Ok, Err}
 use Rattle.state.specs.declared.refusal.Refusal.{Refusal}
 use Rattle.state.specs.declared.refusal.Refusal.TheVariants.{BadRecord}
 use Rattle.state.specs.View.{view_request, view_session, session_of, SessionSound}
@@ -101,13 +101,16 @@ module _ (s : Session) (r : structs.Request) (c : Clipboard) (w : Carries s r c)
   laden_left = swapped w.sound (view_request r) (seventeen (view_request r) w.places) c
 
 -- a branch, or a refusal
-as_laden : (b : Bool) (x : Clipboard) (y : Refusal) {c : Clipboard} → pick b (Ok x) (Err y) ≡ Ok c → (b ≡ true) × (x ≡ c)
-as_laden true x y e = (refl, cc)
-as_laden false x y e = absurd (cc)
+abbrev Found : Type 0
+Found = Result Dossier image.BadRecord
 
-as_refused : (b : Bool) (x : Clipboard) (y : Refusal) {e : Refusal} → pick b (Ok x) (Err y) ≡ Err e → (b ≡ false) × (y ≡ e)
-as_refused true x y e = absurd (cc)
-as_refused false x y e = (refl, cc)
+as_laden : (l : Found) {c : Clipboard} → laden_of l ≡ Ok c → (x : Dossier) × (Ok x ≡ l) × (record { kind = 1; held = x } ≡ c)
+as_laden (Ok x) e = (x, refl, cc)
+as_laden (Err k) e = absurd (cc)
+
+as_refused : (l : Found) {e : Refusal} → laden_of l ≡ Err e → (k : image.BadRecord) × (Err k ≡ l) × (BadRecord k.number ≡ e)
+as_refused (Ok x) e = absurd (cc)
+as_refused (Err k) e = (k, refl, cc)
 
 -- ---- the whole request
 module _ (s : Session) (q : structs.Request) (image : List ℕ) (h : SessionSound s) where
@@ -123,7 +126,7 @@ module _ (s : Session) (q : structs.Request) (image : List ℕ) (h : SessionSoun
   pub stay_left : T (not (run.places asked)) → ((from_of s asked (view_clipboard s.clipboard)).answer ≡ (stepped_of s (run.request asked image)).answer) × ((from_of s asked (view_clipboard s.clipboard)).session ≡ (stepped_of s (run.request asked image)).session)
   stay_left t = let e = not_looked s asked image (places_not t) in (ap (λ (o : Stepped). o.answer) e, ap (λ (o : Stepped). o.session) e)
 
-  abbrev loaded : Loaded
+  abbrev loaded : Found
   loaded = loaded_of (load_added q.user image)
 
   placing : T (not (not (run.places asked))) → T (run.places asked)
@@ -134,11 +137,11 @@ module _ (s : Session) (q : structs.Request) (image : List ℕ) (h : SessionSoun
     user = operands asked (placing t)
 
     module _ {c : Clipboard} (e : laden_of loaded ≡ Ok c) where
-      laid : Held q.user (adder asked user) image refl c
+      laid : Held q.user (adder asked user) image c
       laid =
-          let w = as_laden loaded.good (record { kind = 1; held = loaded.dossier }) (BadRecord loaded.«record») e in
-          let g = good_image q.user (adder asked user) image refl w.0 in
-          g.1 c (sym w.1 ∙ ap (λ (d : Dossier). record { kind = 1; held = d }) (dossier_same g.0))
+          let w = as_laden loaded e in
+          let g = good_image q.user (adder asked user) image w.1 in
+          g.1 c (sym w.2 ∙ ap (λ (d : Dossier). record { kind = 1; held = d }) (dossier_same g.0))
 
       pub carries : Carries s q c
       carries = record { sound = h; places = placing t; held = laid.sound; branch = laid.branch }
@@ -148,6 +151,6 @@ module _ (s : Session) (q : structs.Request) (image : List ℕ) (h : SessionSoun
 
     pub refused_left : {e : Refusal} → laden_of loaded ≡ Err e → (Err e ≡ (stepped_of s (run.request asked image)).answer) × (s ≡ (stepped_of s (run.request asked image)).session)
     refused_left {e} k =
-        let w = as_refused loaded.good (record { kind = 1; held = loaded.dossier }) (BadRecord loaded.«record») k in
-        let f = ap (λ (x : Refusal). record { session = s; answer = Err x }) (sym w.1) ∙ bad_image q.user (adder asked user) image refl s asked h w.0 ∙ looked s asked image (placing t) in
+        let w = as_refused loaded k in
+        let f = ap (λ (x : Refusal). record { session = s; answer = Err x }) (sym w.2) ∙ bad_image q.user (adder asked user) image w.1 s asked h ∙ looked s asked image (placing t) in
         (ap (λ (o : Stepped). o.answer) f, ap (λ (o : Stepped). o.session) f)
