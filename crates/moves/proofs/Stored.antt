@@ -1,4 +1,4 @@
--- A pass over a table: where the path of a row went, and what is left to store. Assumes nothing.
+-- Where a path went, or that it went nowhere. Assumes nothing.
 use mathlib.Core.Path.{◌≡◌, refl, sym, ap, ◌∙◌}
 use mathlib.Core.Bool.{true, false}
 use mathlib.Core.Option.{Option, none, some}
