@@ -1,4 +1,4 @@
--- Rows in order, merged: what the last rows of two lists tell of the list to be stored. Assumes nothing.
+-- Rows whose paths moved: they are still in order, and as many; rows of different paths compare as the paths do. Assumes nothing.
 use mathlib.Core.Path.{◌≡◌, refl, sym, ap, subst₂, ◌∙◌}
 use mathlib.Core.Logic.{◌⊎◌, inl, inr}
 use mathlib.Core.Bool.{Bool, true, false, not}
