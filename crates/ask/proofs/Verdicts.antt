@@ -26,6 +26,7 @@ use Rattle.tables.proofs.Rows.{view_dossier_lem}
 use Rattle.tables.proofs.Parts.{dossier_fits}
 use Rattle.grants.specs.View.{decision_of}
 use Rattle.grants.specs.declared.Provisions as grants
+use Rattle.std.specs.Option.{ok_or}
 use Rattle.std.proofs.Common.{Result, Ok, Err}
 use Rattle.tables.specs.declared.Dossier.{Dossier}
 use Rattle.image.specs.declared.BadRecord.{BadRecord}
@@ -62,8 +63,7 @@ not_there none m e = refl
 not_there (some o) m e = no e
 
 abbrev pub of_decision : std.Option grants.Provisions → Verdict
-of_decision None = Err NotGranted
-of_decision (Some p) = Ok p
+of_decision o = ok_or o NotGranted
 
 pub decided_there : (o : Option Object) (m : Option Provisions) → false ≡ missing o → of_decision (decision_of m) ≡ verdict_at o m
 unfolding refusal_of

@@ -11,6 +11,8 @@ use Rattle.path.specs.Address.{valid}
 use Rattle.path.proofs.Structs.{no, both}
 use Rattle.model.specs.Refusals.{Request, Found, Cached, Standing, bad_operand, common_good, own_good, between, role_good, user_good, time_good, at_root, wrong_clipboard, missing, granted, nodes_over, depth_over, children_over, attributes_over, on_node_over, permissions_over, shelves, provisions, unsigned, log_full, provided, first_that, refusal}
 use Rattle.tables.specs.declared.Dossier.{Dossier}
+use Rattle.std.specs.Prelude as std
+use Rattle.grants.specs.declared.Provisions as grants
 use Rattle.grants.specs.View.{view_decision}
 use Rattle.grants.proofs.Told.{decision_seen}
 use Rattle.std.specs.Prelude.{Ok, Err}
@@ -26,6 +28,11 @@ use Rattle.refusals.specs.View.{view_placed, view_cache}
 use Rattle.refusals.specs.Parts.{found_for}
 use Rattle.refusals.specs.Look.{seen_of, absent_in, taken_in, uncovered_in, clashing_in, totals_in}
 use Rattle.refusals.proofs.Looked.{absent_seen, taken_seen, uncovered_seen, clashing_seen, totals_seen}
+
+-- what is not granted has no provisions
+pub denied_seen : (o : std.Option grants.Provisions) → std.is_some o ≡ false → missing (view_decision o) ≡ true
+denied_seen std.None e = refl
+denied_seen (std.Some p) e = no e
 
 skip : {A : Type 0} (t : Bool) (x y : A) → t ≡ false → pick t x y ≡ y
 skip t x y e = rw e

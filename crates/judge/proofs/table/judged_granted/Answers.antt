@@ -36,12 +36,12 @@ returns-then-unread c =
     let a = c.args in
     refused_10 a.s a.c a.signed a.entries a.q c.requires.4 (cc c.uncovered-bare.ensures) (cc c.clashing-clash.ensures)
     (room _ c.shelf_for-shelf.ensures (cc))
-    (ap (λ (n : ℕ). not (subset n a.signed)) (sym c.agreements_of.ensures) ∙ cc c.unsigned-unread.ensures)
+    (ap (λ (n : ℕ). not (subset n a.signed)) (sym c.provisions_of-asked.ensures.agreements) ∙ cc c.unsigned-unread.ensures)
 
 pub returns-then-late : goal.returns-then-late
 returns-then-late c =
     let a = c.args in
     refused_11 a.s a.c a.signed a.entries a.q c.requires.4 (cc c.uncovered-bare.ensures) (cc c.clashing-clash.ensures)
     (room _ c.shelf_for-shelf.ensures (cc))
-    (ap (λ (n : ℕ). not (subset n a.signed)) (sym c.agreements_of.ensures) ∙ cc c.unsigned-unread.ensures)
-    (ap (λ (n : ℕ). ltb 256 (a.entries + length (members n))) (sym c.messages_of-messages.ensures) ∙ cc c.log_full-late.ensures)
+    (ap (λ (n : ℕ). not (subset n a.signed)) (sym c.provisions_of-asked.ensures.agreements) ∙ cc c.unsigned-unread.ensures)
+    (ap (λ (n : ℕ). ltb 256 (a.entries + length (members n))) (sym c.provisions_of-asked.ensures.messages) ∙ cc c.log_full-late.ensures)
