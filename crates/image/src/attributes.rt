@@ -1,5 +1,5 @@
 // The attributes of an image.
-ghost use Rattle.std.specs.Prelude.{◌≡◌, ◌||◌, ◌*◌, ◌≤◌, ◌<◌, eqb, ltb, length, take, MatchResult};
+ghost use Rattle.std.specs.Prelude.{◌≡◌, ◌||◌, ◌*◌, ◌<◌, eqb, ltb, length, MatchResult};
 ghost use Rattle.path.specs.Address.{before};
 ghost use Rattle.path.specs.View.{steps, PathSound, key_of};
 ghost use Rattle.tables.specs.Places.{before_object};
@@ -44,22 +44,21 @@ fn has_room(count: usize, far: Attribute, p: Path) -> bool
     is_before(far.path, p)
 }
 
-// Whether an attribute of that name at p fits behind so many rows; the nodes are those of the first m keys.
+// Whether an attribute of that name at p fits behind so many rows; the nodes are those of the keys.
 fn attribute_fits(
     keys: &[u64],
-    m: usize,
     count: usize,
     last: Attribute,
     far: Attribute,
     p: Path,
     name: u16,
 ) -> bool
-    requires { (m ≤ length keys.now) × Rises ltb (take m keys.now) × PathSound p × (0 < count → PathSound last.path) × (0 < count → PathSound far.path) }
-    ensures { result ≡ attribute_tests (among (key_of p) (take m keys.now)) count last far p name }
+    requires { Rises ltb keys.now × PathSound p × (0 < count → PathSound last.path) × (0 < count → PathSound far.path) }
+    ensures { result ≡ attribute_tests (among (key_of p) keys.now) count last far p name }
 {
     let fresh = is_new(count, last, p, name);
     let room = has_room(count, far, p);
-    let node = is_among(keys, m, key(p));
+    let node = is_among(keys, key(p));
     node & (fresh & ((count < 256) & room))
 }
 
@@ -81,7 +80,7 @@ pub fn read_attributes(
         let c = t.count;
         let last = t.rows[c.saturating_sub(1)];
         let far = t.rows[c.saturating_sub(16)];
-        if !attribute_fits(&keys, nodes.count, c, last, far, a.path, a.name) {
+        if !attribute_fits(&keys[..nodes.count], c, last, far, a.path, a.name) {
             return Err(BadRecord { number: k + 1 });
         }
         t.rows[c] = a;

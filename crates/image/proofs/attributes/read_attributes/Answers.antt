@@ -5,6 +5,7 @@ use mathlib.Core.Path.{◌≡◌, sym, ap, ap₂, ◌∙◌}
 use Prim.Native.Nat.{◌≤◌, ◌-◌}
 use native.Mathlib.Omega.{arith}
 use lib.ListN.{get_or}
+use lib.Seq.{length-take-le}
 use Rattle.laws.proofs.Fill.{held_room, held_each}
 use Rattle.tables.specs.View.{no_attribute}
 use Rattle.tables.proofs.Rows.{attribute_path, attributes_held}
@@ -48,6 +49,12 @@ bounds-t-saturating_sub-in-loop-k c =
     let j = c.saturating_sub-in-loop-k.ensures in
     search rules
 
+pub slice_bounds-keys-end : goal.slice_bounds-keys-end
+slice_bounds-keys-end c = keys_long c.args.nodes c.loop-k.invariant.on c.keys_of-keys.result c.keys_of-keys.ensures
+
+pub slice_bounds-attribute_fits-end : goal.slice_bounds-attribute_fits-end
+slice_bounds-attribute_fits-end c = sym (length-take-le _ _ (keys_long c.args.nodes c.loop-k.invariant.on c.keys_of-keys.result c.keys_of-keys.ensures))
+
 pub attribute_fits-requires : goal.attribute_fits-requires
 attribute_fits-requires c =
     let l = c.loop-k in
@@ -55,7 +62,6 @@ attribute_fits-requires c =
     let i = c.saturating_sub.ensures in
     let j = c.saturating_sub-in-loop-k.ensures in
     let held = attributes_held l.t l.invariant.sound in (
-      keys_long nodes l.invariant.on c.keys_of-keys.result c.keys_of-keys.ensures,
       keys_ascend nodes l.invariant.on c.keys_of-keys.result c.keys_of-keys.ensures,
       attribute_path_sound l.invariant c.in-Some-Attribute.a (row_is kinds.Attribute c.in-Some-Attribute.is c.in-Some-Attribute.field-0-is c.record_after.ensures),
       λ p. attribute_path (held_each _ _ _ _ _ _ held c.saturating_sub.result no_attribute (omega arith)),

@@ -7,11 +7,12 @@ use Prim.Native.Nat.{◌+◌, ◌-◌}
 use native.Mathlib.Omega.{arith}
 use lib.Dec.{eqb, leb}
 use Rattle.laws.specs.Slots.{pick}
+use lib.Seq.{length-take-le}
 use Rattle.laws.proofs.Fill.{held_room, held_each}
 use Rattle.path.specs.View.{steps}
 use Rattle.tables.specs.View.{view_grant, no_permission}
 use Rattle.tables.proofs.Rows.{permission_path, permissions_held}
-use Rattle.image.proofs.Lent.{keys_long, keys_ascend, there_by_keys, tops_long, names_long, objects_ascend, there_by_objects}
+use Rattle.image.proofs.Lent.{keys_long, keys_ascend, there_by_keys, objects_long, objects_ascend, there_by_objects}
 use Rattle.image.proofs.Clashes.{clash_from, walk_begins, walk_on, walk_ends}
 use Rattle.parse.specs.declared.Record.TheVariants as kinds
 use Rattle.image.proofs.Stands.{row_is}
@@ -22,19 +23,24 @@ use Rattle.image.proofs.permissions.read_permissions.Goals.{After-is_same, After
 pub loop-k-init : goal.loop-k-init
 loop-k-init c = permissions_begin c.requires.1 c.no_permissions-t.ensures
 
+pub slice_bounds-keys-end : goal.slice_bounds-keys-end
+slice_bounds-keys-end c = keys_long c.args.nodes c.loop-k.invariant.on c.keys_of-keys.result c.keys_of-keys.ensures
+
+pub slice_bounds-object_there-end : goal.slice_bounds-object_there-end
+slice_bounds-object_there-end c = sym (length-take-le _ _ (keys_long c.args.nodes c.loop-k.invariant.on c.keys_of-keys.result c.keys_of-keys.ensures))
+
+pub slice_bounds-objects-end : goal.slice_bounds-objects-end
+slice_bounds-objects-end c = objects_long c.args.attributes c.loop-k.invariant.of c.objects_of-objects.result c.objects_of-objects.ensures
+
+pub slice_bounds-object_there-end-in-loop-k : goal.slice_bounds-object_there-end-in-loop-k
+slice_bounds-object_there-end-in-loop-k c = sym (length-take-le _ _ (objects_long c.args.attributes c.loop-k.invariant.of c.objects_of-objects.result c.objects_of-objects.ensures))
+
 pub object_there-on-requires : goal.object_there-on-requires
 object_there-on-requires c =
-    let u = c.loop-k.invariant in record {
-      m_in_bounds = (
-        keys_long c.args.nodes u.on c.keys_of-keys.result c.keys_of-keys.ensures,
-        keys_ascend c.args.nodes u.on c.keys_of-keys.result c.keys_of-keys.ensures,
-      );
-      h_in_bounds = (
-        tops_long c.args.attributes u.of c.objects_of-objects.result c.objects_of-objects.ensures,
-        names_long c.args.attributes u.of c.objects_of-objects.result c.objects_of-objects.ensures,
-        objects_ascend c.args.attributes u.of c.objects_of-objects.result c.objects_of-objects.ensures,
-      );
-    }
+    let u = c.loop-k.invariant in (
+      keys_ascend c.args.nodes u.on c.keys_of-keys.result c.keys_of-keys.ensures,
+      objects_ascend c.args.attributes u.of c.objects_of-objects.result c.objects_of-objects.ensures,
+    )
 
 pub loop-j-init : goal.loop-j-init
 loop-j-init c =
