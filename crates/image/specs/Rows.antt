@@ -13,7 +13,7 @@ use Rattle.tables.specs.View.{Nodes}
 use Rattle.tables.specs.View.{Attributes}
 use Rattle.tables.specs.View.{Permissions}
 use Rattle.tables.specs.View.{view_nodes, NodesSound, view_attributes, AttributesSound, view_permissions, PermissionsSound}
-use Rattle.tables.specs.Places.{before_object}
+use Rattle.tables.specs.Places.{before_object, of_permission}
 use Rattle.parse.specs.declared.Record.{Record}
 use Rattle.parse.specs.declared.Record.TheVariants as kinds
 use Rattle.parse.specs.View.{record_of}
@@ -22,6 +22,10 @@ use Rattle.image.specs.Records.{record_at, Upto}
 -- no row is at a path that comes after p
 abbrev pub NoneAfter : {P : Type 0} → Address → List (Row P) → Type 0
 NoneAfter {P} p l = (r : Row P) → r ∈ l → T (before p r.0) → ⊥
+
+-- no row's object comes after o
+abbrev pub NoObjectAfter : Address × ℕ → List (Row (ℕ × things.Permission)) → Type 0
+NoObjectAfter o l = (r : Row (ℕ × things.Permission)) → r ∈ l → T (before_object o (of_permission r)) → ⊥
 
 -- what the rules ask of a node and of an attribute, of the rows that are there
 abbrev pub node_fits_in : Address → List (Row ℕ) → Bool
