@@ -1,13 +1,14 @@
 -- The columns of sound tables, as lookups are lent them: long enough, in order, and in them is what is in the table. Assumes nothing.
-use mathlib.Core.Path.{◌≡◌, sym, ap, ap₂, subst, ◌∙◌}
+use mathlib.Core.Path.{◌≡◌, refl, sym, ap, ap₂, subst, ◌∙◌}
+use mathlib.Core.Bool.{Bool}
 use mathlib.Core.List.{List}
-use Prim.Native.Nat.{ℕ, ◌-◌, ◌≤◌}
+use Prim.Native.Nat.{ℕ, zero, suc, ◌-◌, ◌≤◌, ◌<◌}
 use native.Mathlib.Omega.{arith}
 use lib.Dec.{ltb}
-use lib.ListN.{length, take, replicate, length-map, length-append}
-use lib.Seq.{take_at}
+use lib.ListN.{length, take, get_or, replicate, length-map, length-append}
+use lib.Seq.{take_at, get_or-take, length-take-le}
 use Rattle.laws.specs.Slots.{slots, All}
-use Rattle.laws.proofs.Fill.{is_fits, held_room, slots_length}
+use Rattle.laws.proofs.Fill.{is_fits, held_room, held_full, held_each, slots_length}
 use Rattle.path.specs.declared.Path.{Path}
 use Rattle.path.specs.Address.{Address}
 use Rattle.path.specs.Packed.{number}
@@ -18,12 +19,13 @@ use Rattle.model.specs.Moves.{owner_in, attribute_in}
 use Rattle.model.specs.Image.{there}
 use Rattle.tables.specs.View.{Nodes}
 use Rattle.tables.specs.View.{Attributes}
-use Rattle.tables.specs.View.{AtPath, Fits, view_nodes, nodes_of, NodesSound, view_attributes, attributes_of, AttributesSound}
-use Rattle.tables.proofs.Rows.{view_nodes_lem, nodes_held, view_attributes_lem}
+use Rattle.tables.specs.View.{AtPath, Fits, view_nodes, nodes_of, NodesSound, view_attributes, attributes_of, AttributesSound, no_attribute}
+use Rattle.tables.proofs.Rows.{view_nodes_lem, nodes_held, view_attributes_lem, attribute_path, attributes_held}
 use Rattle.tables.proofs.Tables.{nodes_count, attributes_count}
 use Rattle.tables.proofs.Places.{nodes_searched, attributes_searched}
 use Rattle.image.specs.Columns.{Rises, NoneAbove, among, before_pair, pair_among, keys_of, objects_of, node_fits_among}
-use Rattle.image.specs.Rows.{NoneAfter, node_fits_in}
+use Rattle.tables.specs.declared.Attribute.{Attribute}
+use Rattle.image.specs.Rows.{NoneAfter, node_fits_in, PathsSound, from_end, attribute_tests}
 use Rattle.image.proofs.Keys.{number_key, key_of_row, keys_none, keys_rise, object_of, objects_rise, key_among, object_among, node_fits_among_lem}
 
 -- any column that fills the first of n slots
@@ -81,3 +83,21 @@ module _ (t : Attributes) (h : AttributesSound t) (o : List (ℕ × ℕ)) (e : o
 
   pub there_by_objects : (p : Path) → PathSound p → (n : ℕ) → pair_among (key_of p, n) (take t.count o) ≡ there (attribute_in (steps p) n (view_attributes t))
   there_by_objects p s n = ap₂ (λ k l. pair_among (k, n) l) (number_key p s) objects_column ∙ object_among (steps p) n (view_attributes t)
+
+-- ---- the first n rows of a table of attributes
+pub paths_taken : (t : Attributes) → AttributesSound t → PathsSound (take t.count t.rows)
+paths_taken t h i c =
+    let held = attributes_held t h in
+    let n = length-take-le t.count t.rows (held_full _ _ _ _ _ _ held) in
+    let less : i < t.count = omega arith in
+    subst (λ (a : Attribute). PathSound a.path) (sym (get_or-take t.count t.rows i no_attribute less)) (attribute_path (held_each _ _ _ _ _ _ held i no_attribute less))
+
+pub tests_taken : (node : Bool) (rows : List Attribute) (n : ℕ) (p : Path) (name : ℕ) → n ≤ length rows
+    → attribute_tests node (length (take n rows)) (from_end 1 (take n rows)) (from_end 16 (take n rows)) p name ≡ attribute_tests node n (get_or rows (n - 1) no_attribute) (get_or rows (n - 16) no_attribute) p name
+tests_taken node rows n p name h =
+    ap (λ m. attribute_tests node m (get_or (take n rows) (m - 1) no_attribute) (get_or (take n rows) (m - 16) no_attribute) p name) (length-take-le n rows h) ∙ go n
+  where
+    go : (m : ℕ) → attribute_tests node m (get_or (take m rows) (m - 1) no_attribute) (get_or (take m rows) (m - 16) no_attribute) p name ≡ attribute_tests node m (get_or rows (m - 1) no_attribute) (get_or rows (m - 16) no_attribute) p name
+    go zero = refl
+    go (suc m) =
+        ap₂ (λ (a b : Attribute). attribute_tests node (suc m) a b p name) (get_or-take (suc m) rows (suc m - 1) no_attribute (omega arith)) (get_or-take (suc m) rows (suc m - 16) no_attribute (omega arith))

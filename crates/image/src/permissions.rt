@@ -18,7 +18,7 @@ use path::{Path, key};
 use tables::{Attributes, Nodes, Permission, Permissions, no_permissions};
 
 // Whether the object is there: the node for name 0, by its key, else the attribute.
-fn object_there<'a>(keys: &'a [u64], objects: &'a [(u64, u16)], p: Path, name: u16) -> bool
+fn object_there(keys: &[u64], objects: &[(u64, u16)], p: Path, name: u16) -> bool
     requires { Rises ltb keys.now × Rises before_pair objects.now }
     ensures { result ≡ pick (eqb name 0) (among (key_of p) keys.now) (pair_among (key_of p, name) objects.now) }
 {
