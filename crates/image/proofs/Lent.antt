@@ -8,7 +8,7 @@ use lib.Dec.{ltb}
 use lib.ListN.{length, take, get_or, replicate, length-map, length-append}
 use lib.Seq.{take_at, get_or-take, length-take-le}
 use Rattle.laws.specs.Slots.{slots, All}
-use Rattle.laws.proofs.Fill.{is_fits, held_room, held_full, held_each, slots_length}
+use Rattle.laws.proofs.Fill.{is_fits, held_full, held_each}
 use Rattle.path.specs.declared.Path.{Path}
 use Rattle.path.specs.Address.{Address}
 use Rattle.path.specs.Packed.{number}
@@ -20,7 +20,7 @@ use Rattle.model.specs.Image.{there}
 use Rattle.tables.specs.View.{Nodes}
 use Rattle.tables.specs.View.{Attributes}
 use Rattle.tables.specs.View.{AtPath, Fits, view_nodes, nodes_of, NodesSound, view_attributes, attributes_of, AttributesSound, no_attribute}
-use Rattle.tables.proofs.Rows.{view_nodes_lem, nodes_held, view_attributes_lem, attribute_path, attributes_held}
+use Rattle.tables.proofs.Rows.{view_nodes_lem, view_attributes_lem, attribute_path, attributes_held}
 use Rattle.tables.proofs.Tables.{nodes_count, attributes_count}
 use Rattle.tables.proofs.Places.{nodes_searched, attributes_searched}
 use Rattle.image.specs.Columns.{Rises, NoneAbove, among, before_pair, pair_among, keys_of, objects_of, node_fits_among}
@@ -45,9 +45,6 @@ module _ (t : Nodes) (h : NodesSound t) (keys : List ℕ) (e : keys ≡ slots 64
 
   nodes_column : take t.count keys ≡ keys_of (view_nodes t)
   nodes_column = column_is 0 64 (keys_of (view_nodes t)) keys t.count e many
-
-  pub keys_size : length keys ≡ 64
-  keys_size = let r = held_room _ _ _ _ _ _ (nodes_held t h) in let m = many in ap length e ∙ slots_length 64 0 (keys_of (view_nodes t)) (omega arith)
 
   pub keys_long : t.count ≤ length keys
   keys_long = column_long 0 64 (keys_of (view_nodes t)) keys t.count e many
