@@ -1,22 +1,28 @@
 -- A walk back over an object's permissions, which are the last rows: none comes after them, and the first row of another object ends them. Assumes nothing.
 use mathlib.Core.Path.{◌≡◌, refl, sym, ap, ap₂, subst, ◌∙◌}
-use mathlib.Core.Bool.{Bool, true, false, ◌&&◌, ◌||◌, true≢false}
+use mathlib.Core.Bool.{Bool, true, false, cond, ◌&&◌, ◌||◌, true≢false}
 use mathlib.Core.Option.{none, some}
-use mathlib.Core.List.{List, [], ◌∷◌}
+use mathlib.Core.List.{List, [], ◌∷◌, reverse}
 use Prim.Native.Nat.{ℕ, zero, suc, ◌+◌, ◌≤◌, ◌<◌}
 use native.Mathlib.Omega.{arith}
 use lib.Dec.{T, eqb, not_T}
-use lib.ListN.{drop, get_or}
+use lib.ListN.{drop, get_or, take}
+use lib.Seq.{take-suc}
 use borrow.Author.Tests.{ltb-true}
 use borrow.Table.Steps.{cases}
+use Rattle.std.specs.List.{list_any, take_while}
+use Rattle.std.proofs.lemmas.List.{reverse-append}
+use Rattle.std.proofs.lemmas.List.Sums.{take_while-cons}
 use Rattle.laws.specs.Slots.{pick}
 use Rattle.laws.specs.Sorted.{◌∈◌, push}
 use Rattle.laws.specs.Search.{place}
-use Rattle.laws.proofs.Fill.{held_next, row_end}
+use Rattle.laws.proofs.Fill.{held_full, held_each, held_next, row_end}
 use Rattle.laws.proofs.Last.{in_rest}
 use Rattle.laws.proofs.Search.{row_side}
 use Rattle.path.specs.Address.{Address, same}
-use Rattle.path.specs.View.{steps}
+use Rattle.path.specs.declared.Path.{Path}
+use Rattle.path.specs.View.{steps, PathSound, key_of}
+use Rattle.path.proofs.Number.{key_same}
 use Rattle.path.proofs.Moves.{Test, holds, fails, test, is_true}
 use Rattle.model.specs.Things as things
 use Rattle.model.specs.Things.{Row}
@@ -27,8 +33,9 @@ use Rattle.tables.specs.View.{Permissions}
 use Rattle.tables.specs.View.{view_grant, view_permission, view_permissions, PermissionsSound, no_permission}
 use Rattle.tables.specs.Places.{before_object, of_permission, permission_place}
 use Rattle.tables.proofs.Asked.{permissions_row}
-use Rattle.tables.proofs.Rows.{permissions_held}
+use Rattle.tables.proofs.Rows.{permission_path, permissions_held}
 use Rattle.tables.proofs.Places.{permissions_searched, of_permission_lem}
+use Rattle.image.specs.Rows.{NoObjectAfter}
 
 -- what does not look at elements of which the test holds begins at any of those, or behind them
 from_below : {A C : Type 0} (b : A → Bool) (G : List A → C) → ((x : A) (l : List A) → b x ≡ true → G (x ∷ l) ≡ G l) → (j : ℕ) (l : List A) → j ≤ place b l → G l ≡ G (drop j l)
@@ -95,3 +102,63 @@ module _ (t : Permissions) (h : PermissionsSound t) (p : Address) (n : ℕ) (g :
       walk_ends a =
           a ∙ sym (from_below (λ r. before_object (of_permission r) (p, n)) (λ l. clash_any g (permissions_in p n l)) skip (i + 1) (view_permissions t)
           (earlier (test (before_object (of_permission (view_permission row)) (p, n)))))
+
+-- ---- the walk as the code has it: back over the first j rows, while they are the object's
+-- whether a row is the object's, by its name and its path's key, and whether it clashes
+abbrev pub is_own : Path → ℕ → Permission → Bool
+is_own q n a = eqb a.name n && eqb (key_of a.path) (key_of q)
+
+abbrev pub clashes_with : things.Permission → Permission → Bool
+clashes_with g a = clash g (view_grant a.grant)
+
+or_false : (x : Bool) → (x || false) ≡ x
+or_false true = refl
+or_false false = refl
+
+or_assoc : (x y z : Bool) → (x || (y || z)) ≡ ((x || y) || z)
+or_assoc true y z = refl
+or_assoc false y z = refl
+
+module _ (t : Permissions) (h : PermissionsSound t) (q : Path) (sound : PathSound q) (n : ℕ) (g : things.Permission) (none_after : NoObjectAfter (steps q, n) (view_permissions t)) where
+  abbrev walk : ℕ → Bool
+  walk j = list_any (clashes_with g) (take_while (is_own q n) (reverse (take j t.rows)))
+
+  abbrev from : ℕ → Bool
+  from j = clash_from t (steps q) n g j
+
+  walked : (j : ℕ) → j ≤ t.count → (x : Bool) → x ≡ from j → (x || walk j) ≡ from 0
+  walked zero c x e = or_false x ∙ e
+  walked (suc j) c x e = go (is_own q n row) refl (λ y. walked j (omega arith) y)
+    where
+      less : j < t.count
+      less = omega arith
+
+      row : Permission
+      row = get_or t.rows j no_permission
+
+      rest : List Permission
+      rest = reverse (take j t.rows)
+
+      turned : reverse (take (suc j) t.rows) ≡ row ∷ rest
+      turned = let f = held_full _ _ _ _ _ _ (permissions_held t h) in ap reverse (take-suc t.rows j no_permission (omega arith)) ∙ reverse-append (take j t.rows) (row ∷ [])
+
+      first : walk (suc j) ≡ list_any (clashes_with g) (cond (is_own q n row) (row ∷ take_while (is_own q n) rest) [])
+      first = ap (λ l. list_any (clashes_with g) (take_while (is_own q n) l)) turned ∙ ap (list_any (clashes_with g)) (take_while-cons (is_own q n) row rest)
+
+      same_path : eqb (key_of row.path) (key_of q) ≡ same (steps row.path) (steps q)
+      same_path = key_same _ _ (permission_path (held_each _ _ _ _ _ _ (permissions_held t h) j no_permission less)) sound
+
+      seen : x ≡ from (j + 1)
+      seen = let s : suc j ≡ j + 1 = omega arith in e ∙ ap (λ i. from i) s
+
+      go : (b : Bool) → is_own q n row ≡ b → ((y : Bool) → y ≡ from j → (y || walk j) ≡ from 0) → (x || walk (suc j)) ≡ from 0
+      go true f r =
+          ap (λ w. x || w) (first ∙ ap (λ b. list_any (clashes_with g) (cond b (row ∷ take_while (is_own q n) rest) [])) f)
+          ∙ or_assoc x (clashes_with g row) (walk j)
+          ∙ r (x || clashes_with g row) (walk_on t h (steps q) n g j less same_path f seen refl)
+      go false f r =
+          ap (λ w. x || w) (first ∙ ap (λ b. list_any (clashes_with g) (cond b (row ∷ take_while (is_own q n) rest) [])) f)
+          ∙ or_false x ∙ walk_ends t h (steps q) n g j less same_path f none_after seen
+
+  pub walk_back : walk t.count ≡ from 0
+  walk_back = walked t.count (omega arith) false (walk_begins t h (steps q) n g t.count (omega arith))

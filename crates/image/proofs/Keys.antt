@@ -47,14 +47,14 @@ number_before p q h g =
 pub number_key : (p : Path) → PathSound p → key_of p ≡ number (steps p)
 number_key p h = ap key_of (facts p h).is
 
--- a row's number, its name, and a column alone, with no count beside it
+-- a row's number, the same with its name, and a column alone, with no count beside it
 abbrev pub key_of_row : {P : Type 0} → Row P → ℕ
 key_of_row r = number r.0
 
-abbrev pub name_of_row : Row Attribute → ℕ
-name_of_row r = r.1.name
+abbrev pub object_of : Row Attribute → ℕ × ℕ
+object_of r = (number r.0, r.1.name)
 
-abbrev pub alone : List ℕ → ℕ → List ℕ
+abbrev pub alone : {A : Type 0} → List A → ℕ → List A
 alone l n = l
 
 -- ---- rows in order, of which num is a number in the order of the rows' keys
@@ -85,10 +85,6 @@ keys_none p h (r ∷ l) a n x (Memᴰ.tail m) t = keys_none p h l a.1 (λ y w. n
 
 pub keys_rise : {P : Type 0} {lt : Row P → Row P → Bool} → Keyed lt before (λ (r : Row P). r.0) → (l : List (Row P)) → All AtPath l → Sorted lt l → Rises ltb (keys_of l)
 keys_rise o = rises o ltb (λ r. number r.0) AtPath (λ x y h g. number_before x.0 y.0 h g)
-
--- a row's path and name as two numbers
-abbrev pub object_of : Row Attribute → ℕ × ℕ
-object_of r = (number r.0, r.1.name)
 
 pub objects_rise : {lt : Row Attribute → Row Attribute → Bool} → Keyed lt before_object of_attribute → (l : List (Row Attribute)) → All AtPath l → Sorted lt l → Rises before_pair (map object_of l)
 objects_rise o =

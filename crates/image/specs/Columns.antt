@@ -1,13 +1,11 @@
--- A table's rows by their numbers alone, so that a lookup is lent a column and takes no table: the numbers of the rows' paths, and names beside them.
+-- A table's rows by their numbers alone, so that a lookup is lent a column and takes no table: the numbers of the rows' paths, or those each with a name.
 use Rattle.std.specs.Prelude.{◌≡◌, refl, Bool, true, false, not, ◌&&◌, ◌||◌, List, [], ◌∷◌, map, ℕ, ◌<◌, eqb, ltb, length}
-use Rattle.laws.specs.Slots.{slots}
 use Rattle.laws.specs.Sorted.{◌∈◌, Sorted}
 use Rattle.laws.specs.Order.{lt_pair}
 use Rattle.path.specs.Address.{Address, parent}
 use Rattle.path.specs.Packed.{number}
 use Rattle.model.specs.Things.{Row, Attribute}
 use Rattle.model.specs.Image.{node_fits, left}
-use Rattle.image.specs.declared.columns.Objects.{Objects}
 
 -- whether the test holds of an element
 abbrev pub any_of : {A : Type 0} → (A → Bool) → List A → Bool
@@ -26,17 +24,11 @@ among k l = any_of (λ x. eqb x k) l
 abbrev pub NoneAbove : ℕ → List ℕ → Type 0
 NoneAbove k l = (x : ℕ) → x ∈ l → k < x → ⊥
 
--- two columns side by side
-abbrev pub beside : List ℕ → List ℕ → List (ℕ × ℕ)
-beside [] m = []
-beside (x ∷ l) [] = []
-beside (x ∷ l) (y ∷ m) = (x, y) ∷ beside l m
-
 -- by the first number, then by the one beside it
 abbrev pub before_pair : ℕ × ℕ → ℕ × ℕ → Bool
 before_pair = lt_pair ltb ltb
 
--- whether two numbers stand side by side in two columns
+-- whether two numbers stand side by side in the column
 abbrev pub pair_among : ℕ × ℕ → List (ℕ × ℕ) → Bool
 pair_among o l = any_of (λ x. eqb x.0 o.0 && eqb x.1 o.1) l
 
@@ -45,13 +37,9 @@ pair_among o l = any_of (λ x. eqb x.0 o.0 && eqb x.1 o.1) l
 abbrev pub keys_of : {P : Type 0} → List (Row P) → List ℕ
 keys_of l = map (λ r. number r.0) l
 
--- the names of attributes
-abbrev pub names_of : List (Row Attribute) → List ℕ
-names_of l = map (λ r. r.1.name) l
-
--- the struct that holds both of attributes
-abbrev pub objects_of : List (Row Attribute) → Objects
-objects_of l = record { keys = slots 256 0 (keys_of l); names = slots 256 0 (names_of l) }
+-- the numbers of attributes' paths, each with its name
+abbrev pub objects_of : List (Row Attribute) → List (ℕ × ℕ)
+objects_of l = map (λ r. (number r.0, r.1.name)) l
 
 -- what the rules ask of a node, by the column of the nodes that are there
 abbrev pub node_fits_among : Address → List ℕ → Bool
@@ -61,8 +49,8 @@ node_fits_among p l = node_fits p (among (number p) l) (among (number (parent p)
 among_yes : among 5 (3 ∷ 5 ∷ []) ≡ true
 among_yes = refl
 
-pair_no : pair_among (5, 1) (beside (3 ∷ 5 ∷ []) (1 ∷ 2 ∷ [])) ≡ false
+pair_no : pair_among (5, 1) ((3, 1) ∷ (5, 2) ∷ []) ≡ false
 pair_no = refl
 
-pair_yes : pair_among (5, 2) (beside (3 ∷ 5 ∷ []) (1 ∷ 2 ∷ [])) ≡ true
+pair_yes : pair_among (5, 2) ((3, 1) ∷ (5, 2) ∷ []) ≡ true
 pair_yes = refl

@@ -1,19 +1,19 @@
 -- The tables as an image is read: its nodes, then its attributes, then its permissions, each row behind those that are there.
-use Rattle.std.specs.Prelude.{◌≡◌, Bool, ◌&&◌, ◌||◌, List, [], ℕ, ◌≤◌, ◌<◌, T, eqb, ltb, length, Some}
+use Rattle.std.specs.Prelude.{◌≡◌, Bool, ◌&&◌, ◌||◌, List, [], ℕ, ◌≤◌, ◌<◌, ◌-◌, T, eqb, ltb, length, get_or, Some}
 use Rattle.laws.specs.Sorted.{◌∈◌}
 use Rattle.path.specs.declared.Path.{Path}
 use Rattle.path.specs.Address.{Address, before, parent}
-use Rattle.path.specs.View.{steps}
+use Rattle.path.specs.View.{steps, PathSound}
 use Rattle.model.specs.Things as things
 use Rattle.model.specs.Things.{Row}
 use Rattle.model.specs.Moves.{owner_in, attribute_in, names_in}
 use Rattle.model.specs.Image.{node_fits, attribute_fits, left, there}
 use Rattle.tables.specs.declared.Attribute.{Attribute}
 use Rattle.tables.specs.View.{Nodes}
-use Rattle.tables.specs.View.{Attributes}
+use Rattle.tables.specs.View.{Attributes, no_attribute}
 use Rattle.tables.specs.View.{Permissions}
 use Rattle.tables.specs.View.{view_nodes, NodesSound, view_attributes, AttributesSound, view_permissions, PermissionsSound}
-use Rattle.tables.specs.Places.{before_object}
+use Rattle.tables.specs.Places.{before_object, of_permission}
 use Rattle.parse.specs.declared.Record.{Record}
 use Rattle.parse.specs.declared.Record.TheVariants as kinds
 use Rattle.parse.specs.View.{record_of}
@@ -23,12 +23,24 @@ use Rattle.image.specs.Records.{record_at, Upto}
 abbrev pub NoneAfter : {P : Type 0} → Address → List (Row P) → Type 0
 NoneAfter {P} p l = (r : Row P) → r ∈ l → T (before p r.0) → ⊥
 
+-- no row's object comes after o
+abbrev pub NoObjectAfter : Address × ℕ → List (Row (ℕ × things.Permission)) → Type 0
+NoObjectAfter o l = (r : Row (ℕ × things.Permission)) → r ∈ l → T (before_object o (of_permission r)) → ⊥
+
 -- what the rules ask of a node and of an attribute, of the rows that are there
 abbrev pub node_fits_in : Address → List (Row ℕ) → Bool
 node_fits_in p l = node_fits p (there (owner_in p l)) (there (owner_in (parent p) l)) (there (owner_in (left p) l)) (length l)
 
 abbrev pub attribute_fits_in : Address → ℕ → List (Row ℕ) → List (Row things.Attribute) → Bool
 attribute_fits_in p name nodes l = attribute_fits (there (owner_in p nodes)) (there (attribute_in p name l)) (length l) (length (names_in p l))
+
+-- the paths of the rows are sound
+abbrev pub PathsSound : List Attribute → Type 0
+PathsSound l = (i : ℕ) → i < length l → PathSound (get_or l i no_attribute).path
+
+-- the row n places before the end, or the first where there are fewer
+abbrev pub from_end : ℕ → List Attribute → Attribute
+from_end n l = get_or l (length l - n) no_attribute
 
 -- the same of an attribute behind so many rows, by the last row and the row 16 places before the end
 abbrev pub attribute_tests : Bool → ℕ → Attribute → Attribute → Path → ℕ → Bool

@@ -1,10 +1,10 @@
 // The attributes of an image.
-ghost use Rattle.std.specs.Prelude.{◌≡◌, ◌||◌, ◌*◌, ◌≤◌, ◌<◌, eqb, ltb, length, take, MatchResult};
+ghost use Rattle.std.specs.Prelude.{◌≡◌, ◌||◌, ◌*◌, ◌<◌, eqb, ltb, length, MatchResult};
 ghost use Rattle.path.specs.Address.{before};
 ghost use Rattle.path.specs.View.{steps, PathSound, key_of};
 ghost use Rattle.tables.specs.Places.{before_object};
 ghost use Rattle.image.specs.Records.{Blames};
-ghost use Rattle.image.specs.Rows.{attribute_tests, NodesDone, AttributesDone};
+ghost use Rattle.image.specs.Rows.{PathsSound, from_end, attribute_tests, NodesDone, AttributesDone};
 ghost use Rattle.image.specs.Columns.{Rises, among};
 
 use crate::BadRecord;
@@ -22,45 +22,34 @@ pub struct AttributesRead {
     pub table: Attributes,
 }
 
-// Whether the object comes after the last of so many rows.
-fn is_new(count: usize, last: Attribute, p: Path, name: u16) -> bool
-    requires { (0 < count → PathSound last.path) × PathSound p }
-    ensures { result ≡ (eqb count 0 || before_object (steps last.path, last.name) (steps p, name)) }
+// Whether the object comes after that of the last row.
+fn is_new(rows: &[Attribute], p: Path, name: u16) -> bool
+    requires { PathsSound rows.now × PathSound p }
+    ensures { result ≡ (eqb (length rows.now) 0 || before_object (steps (from_end 1 rows.now).path, (from_end 1 rows.now).name) (steps p, name)) }
 {
-    if count == 0 {
+    let Some(last) = rows.last() else {
         return true;
-    }
+    };
     object_before(last.path, last.name, p, name)
 }
 
 // Whether the node at p has fewer than 16 attributes, by the row 16 places before the end.
-fn has_room(count: usize, far: Attribute, p: Path) -> bool
-    requires { (0 < count → PathSound far.path) × PathSound p }
-    ensures { result ≡ (ltb count 16 || before (steps far.path) (steps p)) }
+fn has_room(rows: &[Attribute], p: Path) -> bool
+    requires { PathsSound rows.now × PathSound p }
+    ensures { result ≡ (ltb (length rows.now) 16 || before (steps (from_end 16 rows.now).path) (steps p)) }
 {
-    if count < 16 {
-        return true;
-    }
-    is_before(far.path, p)
+    rows.len() < 16 || is_before(rows[rows.len() - 16].path, p)
 }
 
-// Whether an attribute of that name at p fits behind so many rows; the nodes are those of the first m keys.
-fn attribute_fits(
-    keys: &[u64],
-    m: usize,
-    count: usize,
-    last: Attribute,
-    far: Attribute,
-    p: Path,
-    name: u16,
-) -> bool
-    requires { (m ≤ length keys.now) × Rises ltb (take m keys.now) × PathSound p × (0 < count → PathSound last.path) × (0 < count → PathSound far.path) }
-    ensures { result ≡ attribute_tests (among (key_of p) (take m keys.now)) count last far p name }
+// Whether an attribute of that name at p fits behind the rows; the nodes are those of the keys.
+fn attribute_fits(keys: &[u64], rows: &[Attribute], p: Path, name: u16) -> bool
+    requires { Rises ltb keys.now × PathsSound rows.now × PathSound p }
+    ensures { result ≡ attribute_tests (among (key_of p) keys.now) (length rows.now) (from_end 1 rows.now) (from_end 16 rows.now) p name }
 {
-    let fresh = is_new(count, last, p, name);
-    let room = has_room(count, far, p);
-    let node = is_among(keys, m, key(p));
-    node & (fresh & ((count < 256) & room))
+    let fresh = is_new(rows, p, name);
+    let room = has_room(rows, p);
+    let node = is_among(keys, key(p));
+    node & (fresh & ((rows.len() < 256) & room))
 }
 
 pub fn read_attributes(
@@ -79,9 +68,7 @@ pub fn read_attributes(
             return Ok(AttributesRead { next: k, table: t });
         };
         let c = t.count;
-        let last = t.rows[c.saturating_sub(1)];
-        let far = t.rows[c.saturating_sub(16)];
-        if !attribute_fits(&keys, nodes.count, c, last, far, a.path, a.name) {
+        if !attribute_fits(&keys[..nodes.count], &t.rows[..c], a.path, a.name) {
             return Err(BadRecord { number: k + 1 });
         }
         t.rows[c] = a;

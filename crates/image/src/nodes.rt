@@ -1,5 +1,5 @@
 // The nodes of an image.
-ghost use Rattle.std.specs.Prelude.{◌≡◌, ◌*◌, ◌≤◌, ◌<◌, ltb, length, take, MatchResult};
+ghost use Rattle.std.specs.Prelude.{◌≡◌, ◌*◌, ◌<◌, ltb, length, MatchResult};
 ghost use Rattle.path.specs.Address.{last};
 ghost use Rattle.path.specs.Packed.{number};
 ghost use Rattle.path.specs.View.{steps, path_of, PathSound};
@@ -22,16 +22,12 @@ pub struct NodesRead {
     pub table: Nodes,
 }
 
-// Whether k is among the first n keys, none of which is above it: then it is the last one.
-fn node_here(keys: &[u64], n: usize, k: u64) -> bool
-    requires { (n ≤ length keys.now) × Rises ltb (take n keys.now) × NoneAbove k (take n keys.now) }
-    ensures { result ≡ among k (take n keys.now) }
+// Whether k is among the keys, none of which is above it: then it is the last one.
+fn node_here(keys: &[u64], k: u64) -> bool
+    requires { Rises ltb keys.now × NoneAbove k keys.now }
+    ensures { result ≡ among k keys.now }
 {
-    if n == 0 {
-        return false;
-    }
-    let i = n - 1;
-    keys[i] == k
+    keys.last().is_some_and(|x| *x == k)
 }
 
 // The path of the node on the left.
@@ -42,27 +38,27 @@ fn left_of(p: Path) -> Path
     child_of(parent_of(p), last_step(p) - 1).unwrap()
 }
 
-// Whether a node at p fits behind those of the first n keys.
-fn node_fits(keys: &[u64], n: usize, p: Path) -> bool
-    requires { (n ≤ length keys.now) × Rises ltb (take n keys.now) × PathSound p × NoneAbove (number (steps p)) (take n keys.now) }
-    ensures { result ≡ node_fits_among (steps p) (take n keys.now) }
+// Whether a node at p fits behind those of the keys.
+fn node_fits(keys: &[u64], p: Path) -> bool
+    requires { Rises ltb keys.now × PathSound p × NoneAbove (number (steps p)) keys.now }
+    ensures { result ≡ node_fits_among (steps p) keys.now }
 {
-    if 64 <= n {
+    if 64 <= keys.len() {
         return false;
     }
-    if node_here(keys, n, key(p)) {
+    if node_here(keys, key(p)) {
         return false;
     }
     if size(p) == 0 {
         return true;
     }
-    if !is_among(keys, n, key(parent_of(p))) {
+    if !is_among(keys, key(parent_of(p))) {
         return false;
     }
     if last_step(p) == 1 {
         return true;
     }
-    is_among(keys, n, key(left_of(p)))
+    is_among(keys, key(left_of(p)))
 }
 
 pub fn read_nodes(image: &[u8], n: usize) -> Result<NodesRead, BadRecord>
@@ -76,7 +72,7 @@ pub fn read_nodes(image: &[u8], n: usize) -> Result<NodesRead, BadRecord>
             return Ok(NodesRead { next: k, table: t });
         };
         let c = t.count;
-        if !node_fits(&keys, c, node.path) {
+        if !node_fits(&keys[..c], node.path) {
             return Err(BadRecord { number: k + 1 });
         }
         keys[c] = key(node.path);

@@ -1,41 +1,48 @@
 // The permissions of an image, and its end.
-ghost use Rattle.std.specs.Prelude.{◌≡◌, ◌*◌, ◌≤◌, eqb, ltb, length, take, MatchResult};
+ghost use Rattle.std.specs.Prelude.{◌≡◌, ◌*◌, eqb, ltb, length, MatchResult};
 ghost use Rattle.laws.specs.Slots.{pick};
-ghost use Rattle.path.specs.View.{key_of};
+ghost use Rattle.path.specs.View.{steps, PathSound, key_of};
+ghost use Rattle.model.specs.Decide.{clash_any};
+ghost use Rattle.model.specs.Moves.{permissions_in};
+ghost use Rattle.tables.specs.View.{view_grant, view_permissions, PermissionsSound};
 ghost use Rattle.image.specs.Records.{Blames};
-ghost use Rattle.image.specs.Rows.{AttributesDone, PermissionsUpto};
-ghost use Rattle.image.specs.Columns.{Rises, among, beside, before_pair, pair_among};
+ghost use Rattle.image.specs.Rows.{NoObjectAfter, AttributesDone, PermissionsUpto};
+ghost use Rattle.image.specs.Columns.{Rises, among, before_pair, pair_among};
 
 use crate::BadRecord;
 use crate::columns::{is_among, is_object_among, keys_of, objects_of};
 use crate::records::record_after;
 use grants::clash;
 use parse::Record;
-use path::{Path, is_same, key};
-use tables::{Attributes, Nodes, Permissions, no_permissions};
+use path::{Path, key};
+use tables::{Attributes, Nodes, Permission, Permissions, no_permissions};
 
-// Whether the object is there: the node for name 0, by the first m keys, else the attribute, by the first h of the other two columns.
-fn object_there<'a>(
-    keys: &[u64],
-    m: usize,
-    tops: &'a [u64],
-    names: &'a [u16],
-    h: usize,
-    p: Path,
-    name: u16,
-) -> bool
-    requires m_in_bounds { (m ≤ length keys.now) × Rises ltb (take m keys.now) }
-    requires h_in_bounds { (h ≤ length tops.now) × (h ≤ length names.now) × Rises before_pair (take h (beside tops.now names.now)) }
-    ensures { result ≡ pick (eqb name 0) (among (key_of p) (take m keys.now)) (pair_among (key_of p, name) (take h (beside tops.now names.now))) }
+// Whether the object is there: the node for name 0, by its key, else the attribute.
+fn object_there(keys: &[u64], objects: &[(u64, u16)], p: Path, name: u16) -> bool
+    requires { Rises ltb keys.now × Rises before_pair objects.now }
+    ensures { result ≡ pick (eqb name 0) (among (key_of p) keys.now) (pair_among (key_of p, name) objects.now) }
 {
     let k = key(p);
     if name == 0 {
-        return is_among(keys, m, k);
+        return is_among(keys, k);
     }
-    is_object_among(tops, names, h, k, name)
+    is_object_among(objects, k, name)
 }
 
-// The object's permissions are the last rows: records ascend. The walk back ends at the first row of another object.
+// Whether r clashes with one of its object's permissions. They are the last rows, since records ascend: the walk back ends at the first row of another object.
+fn clashes(t: &Permissions, r: Permission) -> bool
+    requires { PermissionsSound t.now × PathSound r.path × NoObjectAfter (steps r.path, r.name) (view_permissions t.now) }
+    ensures { result ≡ clash_any (view_grant r.grant) (permissions_in (steps r.path) r.name (view_permissions t.now)) }
+{
+    let k = key(r.path);
+    let rows = &t.rows[..t.count];
+    let mut own = rows
+        .iter()
+        .rev()
+        .take_while(|a| a.name == r.name && key(a.path) == k);
+    own.any(|a| clash(r.grant, a.grant))
+}
+
 pub fn read_permissions(
     image: &[u8],
     from: usize,
@@ -54,21 +61,13 @@ pub fn read_permissions(
             return Err(BadRecord { number: k + 1 });
         };
         let c = t.count;
-        let m = nodes.count;
-        let h = attributes.count;
-        let on = object_there(&keys, m, &objects.keys, &objects.names, h, r.path, r.name);
-        let mut clashing = false;
-        let mut j = c;
-        while 0 < j {
-            let i = j - 1;
-            let a = t.rows[i];
-            if (a.name == r.name) & is_same(a.path, r.path) {
-                clashing = clashing | clash(r.grant, a.grant);
-                j = i;
-            } else {
-                j = 0;
-            }
-        }
+        let on = object_there(
+            &keys[..nodes.count],
+            &objects[..attributes.count],
+            r.path,
+            r.name,
+        );
+        let clashing = clashes(&t, r);
         if (128 <= c) | (!on | clashing) {
             return Err(BadRecord { number: k + 1 });
         }

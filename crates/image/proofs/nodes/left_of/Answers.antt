@@ -2,7 +2,7 @@
 use mathlib.Core.Path.{◌≡◌, sym, ap, ap₂, ◌∙◌}
 use Prim.Native.Nat.{◌-◌}
 use native.Mathlib.Omega.{arith}
-use Rattle.std.proofs.Common.{rules, Option, Some}
+use Rattle.std.proofs.Common.{rules, Some}
 use Rattle.std.proofs.lemmas.Option.{same_Some}
 use Rattle.path.specs.Address.{parent, child, in_depth}
 use Rattle.path.specs.View.{steps, path_of, moved_of}

@@ -5,8 +5,7 @@ use mathlib.Core.Bool.{Bool, false}
 use mathlib.Core.List.{List}
 use Prim.Native.Nat.{ℕ}
 use native.Mathlib.Omega.{arith}
-use lib.ListN.{length, take}
-use lib.Seq.{length-take-le}
+use lib.ListN.{length}
 use Rattle.path.specs.Address.{Address, parent, last}
 use Rattle.path.specs.Packed.{number}
 use Rattle.path.specs.View.{steps, key_of}
@@ -21,21 +20,18 @@ abbrev at : Start → Address
 at s = steps s.args.p
 
 abbrev column : Start → List ℕ
-column s = take s.args.n s.args.keys.now
+column s = s.args.keys.now
 
 abbrev is_there : Start → Address → Bool
 is_there s q = among (number q) (column s)
 
-count : (s : Start) → length (column s) ≡ s.args.n
-count s = length-take-le s.args.n s.args.keys.now s.requires.0
-
 -- the key that is looked for is the path's number
 asked : (c : After-key) → c.key.result ≡ number (at (goal.at-After-key c).Start)
-asked c = c.key.ensures ∙ number_key c.args.p c.requires.2
+asked c = c.key.ensures ∙ number_key c.args.p c.requires.1
 
 pub node_here-requires : goal.node_here-requires
 node_here-requires c =
-    (c.requires.0, c.requires.1, subst (λ k. NoneAbove k (column (goal.at.node_here-requires c).Start)) (sym (asked (goal.at.node_here-requires c).After-key)) c.requires.3)
+    (c.requires.0, subst (λ k. NoneAbove k (column (goal.at.node_here-requires c).Start)) (sym (asked (goal.at.node_here-requires c).After-key)) c.requires.2)
 
 here : (c : After-node_here) → c.node_here.result ≡ is_there (goal.at-After-node_here c).Start (at (goal.at-After-node_here c).Start)
 here c = c.node_here.ensures ∙ ap (λ k. among k (column (goal.at-After-node_here c).Start)) (asked (goal.at-After-node_here c).After-key)
@@ -46,7 +42,6 @@ returns-then-node_here c =
 
 pub returns-then-size-eq0 : goal.returns-then-size-eq0
 returns-then-size-eq0 c =
-    let n = count (goal.at.returns-then-size-eq0 c).Start in
     node_root (at (goal.at.returns-then-size-eq0 c).Start) (is_there (goal.at.returns-then-size-eq0 c).Start (at (goal.at.returns-then-size-eq0 c).Start)) (is_there (goal.at.returns-then-size-eq0 c).Start (parent (at (goal.at.returns-then-size-eq0 c).Start))) (is_there (goal.at.returns-then-size-eq0 c).Start (left (at (goal.at.returns-then-size-eq0 c).Start))) (length (column (goal.at.returns-then-size-eq0 c).Start)) (omega arith)
     (sym (here (goal.at.returns-then-size-eq0 c).After-node_here) ∙ c.if-node_here.false) (sym c.size.ensures.0 ∙ c.if-size-eq0.true)
 
@@ -62,7 +57,6 @@ above c =
 
 pub returns-then-last_step-eq1 : goal.returns-then-last_step-eq1
 returns-then-last_step-eq1 c =
-    let n = count (goal.at.returns-then-last_step-eq1 c).Start in
     node_first (at (goal.at.returns-then-last_step-eq1 c).Start) (is_there (goal.at.returns-then-last_step-eq1 c).Start (at (goal.at.returns-then-last_step-eq1 c).Start)) (is_there (goal.at.returns-then-last_step-eq1 c).Start (parent (at (goal.at.returns-then-last_step-eq1 c).Start))) (is_there (goal.at.returns-then-last_step-eq1 c).Start (left (at (goal.at.returns-then-last_step-eq1 c).Start))) (length (column (goal.at.returns-then-last_step-eq1 c).Start)) (omega arith) (fresh (goal.at.returns-then-last_step-eq1 c).Else-size-eq0) (deep (goal.at.returns-then-last_step-eq1 c).Else-size-eq0)
     (sym (above (goal.at.returns-then-last_step-eq1 c).After-is_among) ∙ not-false _ c.if-not-is_among.false-raw) (sym c.last_step.ensures ∙ c.if-last_step-eq1.true)
 
@@ -71,11 +65,10 @@ other c e = c.if-last_step-eq1.false (c.last_step.ensures ∙ e)
 
 pub left_of-requires : goal.left_of-requires
 left_of-requires c =
-    (c.requires.2, last_more c.requires.2 (deep (goal.at.left_of-requires c).Else-size-eq0) (other (goal.at.left_of-requires c).Else-last_step-eq1))
+    (c.requires.1, last_more c.requires.1 (deep (goal.at.left_of-requires c).Else-size-eq0) (other (goal.at.left_of-requires c).Else-last_step-eq1))
 
 pub returns : goal.returns
 returns c =
-    let n = count (goal.at.returns c).Start in
     c.is_among-2.ensures ∙ ap (λ x. among x (column (goal.at.returns c).Start)) (c.key-3.ensures ∙ ap key_of c.left_of.ensures)
     ∙ node_beside (at (goal.at.returns c).Start) (is_there (goal.at.returns c).Start (at (goal.at.returns c).Start)) (is_there (goal.at.returns c).Start (parent (at (goal.at.returns c).Start))) (is_there (goal.at.returns c).Start (left (at (goal.at.returns c).Start))) (length (column (goal.at.returns c).Start)) (omega arith) (fresh (goal.at.returns c).Else-size-eq0) (deep (goal.at.returns c).Else-size-eq0)
     (sym (above (goal.at.returns c).After-is_among) ∙ not-false _ c.if-not-is_among.false-raw) (other (goal.at.returns c).Else-last_step-eq1)

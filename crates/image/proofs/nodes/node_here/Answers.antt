@@ -1,12 +1,13 @@
 -- `image::nodes::node_here` meets its contract: the last key is the only one that can be k. Assumes nothing.
+use Rattle.std.proofs.Common.{rules}
 use borrow.Author.Tests.{eq-eqb, eqb-true}
-use native.Mathlib.Omega.{arith}
 use lib.Dec.{eqb, ltb→lt}
 use Rattle.laws.proofs.Order.{nat_order}
-use Rattle.image.proofs.Halving.{column_last}
+use Rattle.image.proofs.Halving.{column_last_asked, match_said}
 use Rattle.image.proofs.nodes.node_here.Goals as goal
 
 pub returns : goal.returns
 returns c =
-    column_last nat_order c.args.keys.now c.args.n 0 c.requires.0 c.requires.1 c.args.k (λ x. eqb x c.args.k) (λ x. eqb-true x c.args.k) (λ x. eq-eqb x c.args.k)
-    (λ x m t. c.requires.2 x m (ltb→lt c.args.k x t)) (omega arith)
+    let k = c.args.k in
+    column_last_asked nat_order c.args.keys.now c.requires.0 k (λ x. eqb x k) (λ x. eqb-true x k) (λ x. eq-eqb x k) (λ x m t. c.requires.1 x m (ltb→lt k x t))
+    c.last.result c.is_some_and.result (c.last.ensures.item.0, c.last.ensures.item.1) (match_said _ c.last.result (λ x m. search rules) c.is_some_and.ensures)

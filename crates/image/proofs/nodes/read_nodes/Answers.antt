@@ -2,6 +2,7 @@
 use borrow.Author.Tests.{not-true, not-false}
 use mathlib.Core.Path.{◌≡◌, sym, ap, ◌∙◌}
 use mathlib.Core.Bool.{true}
+use lib.Seq.{length-take-le}
 use Rattle.laws.specs.Slots.{slots}
 use Rattle.path.specs.View.{steps}
 use Rattle.tables.specs.View.{view_nodes}
@@ -18,12 +19,17 @@ use Rattle.image.proofs.nodes.read_nodes.Goals.{After-node_fits, Else-not-node_f
 pub loop-k-init : goal.loop-k-init
 loop-k-init c = (nodes_begin _ _ c.no_nodes-t.ensures, ap (λ l. slots 64 0 (keys_of l)) (sym (nodes_none c.no_nodes-t.ensures).1))
 
+pub slice_bounds-keys-end : goal.slice_bounds-keys-end
+slice_bounds-keys-end c = let l = c.loop-k in keys_long l.t l.invariant.0.sound l.keys l.invariant.1
+
+pub slice_bounds-node_fits-end : goal.slice_bounds-node_fits-end
+slice_bounds-node_fits-end c = let l = c.loop-k in sym (length-take-le _ _ (keys_long l.t l.invariant.0.sound l.keys l.invariant.1))
+
 pub node_fits-requires : goal.node_fits-requires
 node_fits-requires c =
     let l = c.loop-k in
     let p = node_path_sound l.invariant.0 c.in-Some-Node.node (row_is kinds.Node c.in-Some-Node.is c.in-Some-Node.field-0-is c.record_after.ensures) in
     let n = node_none_after l.invariant.0 c.in-Some-Node.node (row_is kinds.Node c.in-Some-Node.is c.in-Some-Node.field-0-is c.record_after.ensures) in (
-      keys_long l.t l.invariant.0.sound l.keys l.invariant.1,
       keys_ascend l.t l.invariant.0.sound l.keys l.invariant.1,
       p,
       keys_below l.t l.invariant.0.sound l.keys l.invariant.1 p n,
