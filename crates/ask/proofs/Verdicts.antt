@@ -11,7 +11,6 @@ use lib.IntN.{ℤ, pos, negsuc}
 use mir.Syntax.{w64}
 use mir.Val.{SFits}
 use Rattle.std.specs.Prelude as std
-use Rattle.std.specs.Prelude.{Some, None, is_none}
 use Rattle.path.specs.Address.{Address, valid}
 use Rattle.path.proofs.Structs.{no}
 use Rattle.model.specs.Things as things

@@ -130,11 +130,7 @@ pub fn dossier_ask(
         len,
         steps: [s1, s2, s3, s4, s5, s6],
     };
-    let subject = Subject {
-        role,
-        user,
-        time,
-    };
+    let subject = Subject { role, user, time };
     let q = Question {
         subject,
         path,

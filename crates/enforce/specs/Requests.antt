@@ -1,6 +1,5 @@
 -- A request by what there is to paste, on the structs; what judging makes of it, and what request 17's image is.
 use Rattle.std.specs.Prelude.{Bool, List, [], ◌∷◌, ℕ, T, Option, Some, None, Result, Ok, Err}
-use Rattle.laws.specs.Slots.{pick}
 use Rattle.model.specs.Things as things
 use Rattle.model.specs.Things.{State}
 use Rattle.model.specs.Refusals as refusals

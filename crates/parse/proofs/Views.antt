@@ -13,7 +13,6 @@ use Rattle.path.specs.Address.{Address}
 use Rattle.path.specs.Bytes.{read_steps}
 use Rattle.path.specs.View.{path_of, moved_of}
 use Rattle.path.proofs.Moves.{Test, holds, fails, test}
-use Rattle.path.proofs.Structs.{no}
 use Rattle.path.specs.declared.Path.{Path}
 use Rattle.std.proofs.lemmas.Option.{none-some, same_Some}
 use Rattle.model.specs.Things as things

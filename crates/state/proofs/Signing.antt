@@ -8,7 +8,7 @@ use lib.Bits.{bit_or}
 use lib.ListN.{get_or, set, get_or-map}
 use Rattle.model.specs.Refusals.{user_good, first_that}
 use Rattle.model.specs.Run as run
-use Rattle.model.specs.Run.{step, or_refused, reply, with_signatures}
+use Rattle.model.specs.Run.{step, or_refused, with_signatures}
 use Rattle.state.specs.declared.Agreements.{Agreements}
 use Rattle.std.specs.Prelude.{Ok, Err}
 use Rattle.state.specs.declared.Reply.TheVariants.{Done}

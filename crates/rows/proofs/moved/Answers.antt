@@ -9,7 +9,7 @@ use Rattle.laws.proofs.Fill.{begin}
 use Rattle.rows.specs.Tables.{table_with}
 use Rattle.rows.proofs.Steps.{row_room, row_sound, filled_more, filled_past, filled_end, table_held}
 use Rattle.rows.proofs.moved.Goals as goal
-use Rattle.rows.proofs.moved.Goals.{In-loop-row, After-row-item, in-Some, in_default}
+use Rattle.rows.proofs.moved.Goals.{in-Some, in_default}
 
 pub loop-row-init : goal.loop-row-init
 loop-row-init g c =

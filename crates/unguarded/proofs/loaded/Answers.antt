@@ -1,11 +1,9 @@
 -- `unguarded::loaded` meets its contract: the dossier of that number is the image's, or nothing changes. Assumes nothing.
-use borrow.Author.Tests.{eq-eqb, ne_eqb, lt-leb, le-leb, not-true, not-false}
-use mathlib.Core.Path.{◌≡◌, sym, ap, ◌∙◌}
+use borrow.Author.Tests.{eq-eqb, ne_eqb, lt-leb, le-leb}
+use mathlib.Core.Path.{◌≡◌, sym, ◌∙◌}
 use mathlib.Core.Bool.{true}
 use Rattle.model.specs.Image as images
 use Rattle.model.specs.Run.{dossier_good}
-use Rattle.std.specs.Prelude.{Err}
-use Rattle.state.specs.declared.refusal.Refusal.TheVariants.{BadRecord}
 use Rattle.unguarded.proofs.Loading.{found_bad, found_good, load_refused, load_bad, load_one, load_two}
 use Rattle.unguarded.proofs.loaded.Goals as goal
 use Rattle.unguarded.proofs.loaded.Goals.{After-load}

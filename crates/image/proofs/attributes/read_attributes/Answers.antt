@@ -12,7 +12,7 @@ use Rattle.parse.specs.declared.Record.TheVariants as kinds
 use Rattle.image.proofs.Stands.{row_is}
 use Rattle.image.proofs.Phases.{blamed, attributes_begin, answer_at, attribute_path_sound, attribute_breaks, attributes_more}
 use Rattle.image.proofs.attributes.read_attributes.Goals as goal
-use Rattle.image.proofs.attributes.read_attributes.Goals.{After-attribute_fits, In-Some-Attribute}
+use Rattle.image.proofs.attributes.read_attributes.Goals.{After-attribute_fits}
 
 pub loop-k-init : goal.loop-k-init
 loop-k-init c = attributes_begin c.requires.1 c.no_attributes-t.ensures
