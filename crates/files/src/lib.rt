@@ -14,6 +14,7 @@ pub mod reading;
 // Reads until the buffer is full, the file ends or a read fails, and answers how many bytes came.
 fn read_full(file: &mut impl Read, out: &mut [u8]) -> usize {
     let mut done: usize = 0;
+    // no `for`: each read says how far it went
     while done < out.len() {
         let n = file.read(&mut out[done..]).unwrap_or(0);
         if n == 0 {

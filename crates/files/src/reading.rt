@@ -46,6 +46,7 @@ impl Reader {
     ) -> Option<Result<&'a [u8], Why>> {
         let mut len = 0;
         let mut is_long = false;
+        // a proved loop has to end, and nothing says that a file does: the pieces are counted, up to a number that no run reaches
         for _ in 0..u64::MAX {
             let rest = self.piece.get(self.at..self.got).unwrap_or_default();
             if rest.is_empty() {
