@@ -17,7 +17,7 @@ fn put_bytes(line: &mut Line, bytes: &[u8]) -> fmt::Result {
         return line.write_str("-");
     }
     for b in bytes {
-        write!(line, "{b:02x}")?;
+        line.push_hex(*b);
     }
     Ok(())
 }

@@ -7,6 +7,8 @@ use std::fmt::Write;
 // The longest answer is that of a log of 32768 bytes, in hex.
 const ROOM: usize = 70000;
 
+const DIGITS: [u8; 16] = *b"0123456789abcdef";
+
 // What finds no room is left out.
 #[derive(Drop)]
 pub struct Line {
@@ -42,6 +44,12 @@ impl Line {
             self.bytes[self.len] = b;
             self.len += 1;
         }
+    }
+
+    // A byte in lower-case hex. No `write!`: a save has some 18,000 bytes, and a formatter for each of them is most of what the call takes.
+    pub(crate) fn push_hex(&mut self, b: u8) {
+        self.push(DIGITS[usize::from(b / 16)]);
+        self.push(DIGITS[usize::from(b % 16)]);
     }
 }
 
