@@ -1,4 +1,4 @@
--- Lists in strict order seen from their ends: where the last element goes when two lists are put together. Assumes nothing.
+-- Lists in strict order seen from their ends: where the last element goes when one is inserted, and when two lists are put together. Assumes nothing.
 use mathlib.Core.Path.{◌≡◌, refl, sym, ap, ap₂, subst, ◌∙◌}
 use mathlib.Core.Bool.{Bool, true, false, not}
 use mathlib.Core.Option.{Option, none, some}
@@ -9,7 +9,8 @@ use native.Mathlib.Omega.{arith}
 use lib.Dec.{T}
 use lib.ListN.{length, take, drop}
 use Rattle.laws.specs.Slots.{pick}
-use Rattle.laws.specs.Sorted.{◌∈◌, StrictOrder, Sorted, nil, cons, interleave_one, interleave, push, move}
+use Rattle.laws.specs.Sorted.{◌∈◌, StrictOrder, Sorted, nil, cons, insert_by, insert, interleave_one, interleave, push, move}
+use Rattle.laws.proofs.Sorted.{insert_later}
 
 -- ---- the first rows of a list
 pub in_take : {A : Type 0} {z : A} (i : ℕ) (l : List A) → z ∈ take i l → z ∈ l
@@ -60,6 +61,19 @@ module _ {A : Type 0} (lt : A → A → Bool) where
   pub sorted_head : {x : A} {l : List A} → Sorted lt (x ∷ l) → (z : A) → z ∈ l → T (lt x z)
   sorted_head (cons bx sl) = bx
 
+  insert_by_last : (b c : Bool) (a x y : A) (l r : List A) {r' : List A} → r' ≡ r ++ (x ∷ []) → insert_by b c a y (l ++ (x ∷ [])) r' ≡ insert_by b c a y l r ++ (x ∷ [])
+  insert_by_last true c a x y l r e = refl
+  insert_by_last false true a x y l r e = ap (λ q. y ∷ q) e
+  insert_by_last false false a x y l r e = refl
+
+  -- one that is less than the last goes before it
+  insert_before : (a x : A) (l : List A) → lt a x ≡ true → insert lt a (l ++ (x ∷ [])) ≡ insert lt a l ++ (x ∷ [])
+  insert_before a x [] t = rw t
+  insert_before a x (y ∷ l) t = insert_by_last (lt a y) (lt y a) a x y l (insert lt a l) (insert_before a x l t)
+
+  pub insert_up : (a : A) {l k : List A} {x : A} → Ends l k x → lt a x ≡ true → Ends (insert lt a l) (insert lt a k) x
+  insert_up a {k = k} {x} e t = record { ends = ap (insert lt a) e.ends ∙ insert_before a x k t }
+
 module _ {A : Type 0} (lt : A → A → Bool) (o : StrictOrder lt) where
   -- all are less than what the last is less than
   below_last : (x a : A) (l : List A) → Sorted lt (l ++ (x ∷ [])) → T (lt x a) → (z : A) → z ∈ l ++ (x ∷ []) → T (lt z a)
@@ -81,6 +95,16 @@ module _ {A : Type 0} (lt : A → A → Bool) (o : StrictOrder lt) where
       go : (b : Bool) → (T b → ⊥) → b ≡ false
       go true f = absurd (f tt)
       go false f = refl
+
+  -- one that is more than all goes behind them
+  insert_last : (a : A) (l : List A) → ((z : A) → z ∈ l → T (lt z a)) → insert lt a l ≡ l ++ (a ∷ [])
+  insert_last a [] h = refl
+  insert_last a (y ∷ l) h = insert_later lt o a y l (h y (Memᴰ.head refl)) ∙ ap (λ r. y ∷ r) (insert_last a l (λ z m. h z (Memᴰ.tail m)))
+
+  -- one that is not less than the last goes behind it
+  pub insert_end : (a : A) {l k : List A} {x : A} → Sorted lt l → Ends l k x → (a ≡ x → ⊥) → lt a x ≡ false → Ends (insert lt a l) l a
+  insert_end a {l} {k} {x} s e n t =
+      record { ends = insert_last a l (λ z h. below_last x a k (subst (Sorted lt) e.ends s) (less a x n t) z (subst (λ r. z ∈ r) e.ends h)) }
 
 -- ---- two lists put together, by their last elements
 module _ {A : Type 0} (lt : A → A → Bool) where

@@ -142,6 +142,20 @@ pack_slots : (n : ℕ) (l : List ℕ) → length l ≤ n → pack n (slots n 0 l
 pack_slots n l h = let a = pack_append l (replicate (n - length l) 0) n (n - length l) (omega arith) in let b = pack_blank (n - length l) (n - length l) in omega arith
 
 -- ---- the seven bytes are the digits
+blank_read : (n i : ℕ) → ◌≡◌ {A = ℕ} (get_or (replicate n 0) i 0) 0
+blank_read zero i = refl
+blank_read (suc n) zero = refl
+blank_read (suc n) (suc i) = blank_read n i
+
+slot_read : (l : List ℕ) (n i : ℕ) → get_or (l ++ replicate n 0) i 0 ≡ get_or l i 0
+slot_read [] n i = blank_read n i
+slot_read (x ∷ l) n zero = refl
+slot_read (x ∷ l) n (suc i) = slot_read l n i
+
+pub byte_read : (l : Address) (i : ℕ) → get_or (step_bytes l) i 0 ≡ get_or (length l ∷ l) i 0
+byte_read l zero = refl
+byte_read l (suc i) = slot_read l (6 - length l) i
+
 pub bytes_length : (l : Address) → length l ≤ 6 → length (step_bytes l) ≡ 7
 bytes_length l h = ap suc (slots_length 6 0 l h)
 
@@ -161,7 +175,18 @@ key_bytes p h =
     ∙ digits_pack (step_bytes l) 7 7 0 (omega arith, small_append l (replicate (6 - length l) 0) f.small (small_blank (6 - length l))) (bytes_length l f.short) (omega arith)
 
 -- ---- what the bytes are read as
+and_no : (a b : Bool) → (a && (false && b)) ≡ false
+and_no true b = refl
+and_no false b = refl
+
 module _ (n : ℕ) (t : List ℕ) (full : length t ≡ 6) where
+  pub read_deep : 6 < n → read_steps (n ∷ t) ≡ none
+  read_deep h =
+      let e = ap length (take_all n t (omega arith)) in
+      let p = take n t in
+      ap (λ b. pick (valid p && (b && same_bytes (slots 6 0 p) t)) (some p) none) (ne_eqb (length p) n (λ f. omega arith))
+      ∙ ap (λ b. pick b (some p) none) (and_no (valid p) (same_bytes (slots 6 0 p) t))
+
   module _ (h : n ≤ 6) where
     size : length (take n t) ≡ n
     size = length-take-le n t (omega arith)

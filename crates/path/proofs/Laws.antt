@@ -139,6 +139,11 @@ parent_child [] s = refl
 parent_child (x ∷ []) s = refl
 parent_child (x ∷ y ∷ p) s = ap (λ (r : Address). x ∷ r) (parent_child (y ∷ p) s)
 
+pub last_child : (p : Address) (s : ℕ) → last (child p s) ≡ s
+last_child [] s = refl
+last_child (x ∷ []) s = refl
+last_child (x ∷ y ∷ p) s = last_child (y ∷ p) s
+
 pub child_parent : (k : ℕ) (q : Address) → child (parent (k ∷ q)) (last (k ∷ q)) ≡ k ∷ q
 child_parent k [] = refl
 child_parent k (j ∷ q) = ap (λ (r : Address). k ∷ r) (child_parent j q)

@@ -1,17 +1,19 @@
 -- Laws of the order of rows: the first part that differs decides, keys stand for paths, times compare as two's complement numbers. Assumes nothing.
 use mathlib.Core.Path.{◌≡◌, refl, sym, ap, ap₂, subst, ◌∙◌}
 use mathlib.Core.Bool.{Bool, true, false, ◌&&◌, ◌||◌}
+use mathlib.Core.List.{List, [], ◌∷◌}
 use Prim.Native.Nat.{ℕ, suc, ◌-◌, ◌^◌}
 use native.Mathlib.Omega.{arith}
 use lib.IntN.{ℤ, pos, negsuc}
-use lib.Dec.{T, eqb, ltb}
+use lib.Signed.{le_z, lt_z}
+use lib.Dec.{T, eqb, ltb, leb-zero}
 use borrow.Author.Tests.{ltb-true, ltb-false, lt-ltb, le-ltb, eq-eqb, ne_eqb, eqb-true, eqb-false}
 use Rattle.std.specs.Prelude.{cond, Some, FitsSigned}
 use Rattle.std.proofs.Common.{Option, Ordering, Less, Equal, Greater}
 use Rattle.std.specs.Cmp.{Some-then}
 use Rattle.std.specs.Int.{cast_unsigned, w64}
 use Rattle.std.specs.Ordering.{ordering_then, is_gt, is_lt, is_some_and, nat_cmp, partial_ordering_then}
-use Rattle.laws.specs.Order.{lex}
+use Rattle.laws.specs.Order.{lex, lt_list}
 use Rattle.path.specs.declared.Path.{Path}
 use Rattle.path.specs.Address.{Address, same, before}
 use Rattle.path.specs.View.{steps, PathSound, key_of}
@@ -39,6 +41,9 @@ lexed_differ j k c n = go (ltb j k) refl (ltb k j) refl
     go false e true f = refl
     go false e false f = let h = ltb-false j k e in let g = ltb-false k j f in absurd (n (omega arith))
 
+pub lexed_same : (j k : ℕ) (c : Bool) → j ≡ k → lexed j k c ≡ c
+lexed_same j k c e = rw (le-ltb j k (omega arith), le-ltb k j (omega arith))
+
 lexed_last : (j k : ℕ) → lexed j k false ≡ ltb j k
 lexed_last j k = go (ltb j k) (ltb k j)
   where
@@ -46,6 +51,17 @@ lexed_last j k = go (ltb j k) (ltb k j)
     go true d = refl
     go false true = refl
     go false false = refl
+
+-- lists of numbers, the one less, the other less, or c
+abbrev listed : List ℕ → List ℕ → Bool → Bool
+listed k l c = lex (lt_list ltb k l) (lt_list ltb l k) c
+
+listed_differ : (x y : ℕ) (k l : List ℕ) (c : Bool) → (x ≡ y → ⊥) → listed (x ∷ k) (y ∷ l) c ≡ ltb x y
+listed_differ x y k l c n =
+    ap₂ (λ a b. lex a b c) (lexed_differ x y (lt_list ltb k l) n) (lexed_differ y x (lt_list ltb l k) (λ e. n (sym e))) ∙ lexed_differ x y c n
+
+listed_same : (x y : ℕ) (k l : List ℕ) (c : Bool) → x ≡ y → listed (x ∷ k) (y ∷ l) c ≡ listed k l c
+listed_same x y k l c e = ap₂ (λ a b. lex a b c) (lexed_same x y (lt_list ltb k l) e) (lexed_same y x (lt_list ltb l k) (sym e))
 
 -- two pairs of numbers, as the library compares them
 abbrev pub pair_lt : ℕ × ℕ → ℕ × ℕ → Bool
@@ -161,6 +177,13 @@ module _ {p q r : Option Ordering} {a a' b b' c c' : Bool} (x : Ranks p a a') (y
       ranks_as (lex_turned a a' (lex b b' c) (lex b' b c') d ∙ ap (lex a a') (lex_turned b b' c c' d)) (lex_turned a' a (lex b' b c') (lex b b' c) d' ∙ ap (lex a' a) (lex_turned b' b c' c d'))
       (ranks_then ranks_three w)
 
+-- ---- times
+pub time_test : (x y : ℤ) → ((le_z (pos 0) x && lt_z y (pos 0)) || ((le_z (pos 0) x || lt_z y (pos 0)) && lt_z x y)) ≡ lt_time x y
+time_test (pos a) (pos b) = rw (leb-zero a, le-ltb b 0 (omega arith))
+time_test (pos a) (negsuc b) = rw (leb-zero a)
+time_test (negsuc a) (pos b) = rw (le-ltb b 0 (omega arith))
+time_test (negsuc a) (negsuc b) = refl
+
 -- a time's bits, read as a number
 pub ranks_time : (x y : ℤ) → FitsSigned w64 x → FitsSigned w64 y → Ranks (Some (nat_cmp (cast_unsigned w64 x) (cast_unsigned w64 y))) (lt_time x y) (lt_time y x)
 ranks_time x y f g = ranks_as (go x y f g) (go y x g f) (ranks_number (cast_unsigned w64 x) (cast_unsigned w64 y))
@@ -204,3 +227,37 @@ pub ranks_grant : (g h : Permission) → FitsSigned w64 g.first × FitsSigned w6
 ranks_grant g h f e =
     ranks_four (ranks_three (ranks_number g.role h.role) (ranks_number g.action h.action) (ranks_end g.user h.user))
     (ranks_time g.first h.first f.0 e.0) (ranks_time g.last h.last f.1 e.1) (ranks_then (ranks_number g.messages h.messages) (ranks_end g.agreements h.agreements))
+
+-- the first part that differs decides
+module _ (g h : Permission) where
+  abbrev pub sets : Bool
+  sets = lt_list ltb (g.messages ∷ g.agreements ∷ []) (h.messages ∷ h.agreements ∷ [])
+
+  abbrev pub lasts : Bool
+  lasts = lex (lt_time g.last h.last) (lt_time h.last g.last) sets
+
+  abbrev pub times : Bool
+  times = lex (lt_time g.first h.first) (lt_time h.first g.first) lasts
+
+  pub by_role : (g.role ≡ h.role → ⊥) → lt_permission g h ≡ ltb g.role h.role
+  by_role n = listed_differ g.role h.role (g.action ∷ g.user ∷ []) (h.action ∷ h.user ∷ []) times n
+
+  module _ (r : g.role ≡ h.role) where
+    roles : lt_permission g h ≡ listed (g.action ∷ g.user ∷ []) (h.action ∷ h.user ∷ []) times
+    roles = listed_same g.role h.role (g.action ∷ g.user ∷ []) (h.action ∷ h.user ∷ []) times r
+
+    pub by_action : (g.action ≡ h.action → ⊥) → lt_permission g h ≡ ltb g.action h.action
+    by_action n = roles ∙ listed_differ g.action h.action (g.user ∷ []) (h.user ∷ []) times n
+
+    module _ (a : g.action ≡ h.action) where
+      actions : lt_permission g h ≡ listed (g.user ∷ []) (h.user ∷ []) times
+      actions = roles ∙ listed_same g.action h.action (g.user ∷ []) (h.user ∷ []) times a
+
+      pub by_user : (g.user ≡ h.user → ⊥) → lt_permission g h ≡ ltb g.user h.user
+      by_user n = actions ∙ listed_differ g.user h.user [] [] times n
+
+      pub by_times : g.user ≡ h.user → lt_permission g h ≡ times
+      by_times u = actions ∙ listed_same g.user h.user [] [] times u
+
+  pub by_sets : (ltb g.messages h.messages || (eqb g.messages h.messages && ltb g.agreements h.agreements)) ≡ sets
+  by_sets = lexed_or g.messages h.messages (ltb g.agreements h.agreements) ∙ ap (lexed g.messages h.messages) (sym (lexed_last g.agreements h.agreements))
