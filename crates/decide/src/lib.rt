@@ -62,7 +62,8 @@ pub fn change_node(d: Dossier, p: Path, s: Subject) -> Option<Provisions>
     owned(owner_in(d.nodes, p)?, s.user).or_else(|| change_by(d.permissions, p, s))
 }
 
-// Read of the attribute of that name at p.
+// Read of the attribute of that name at p. Made a part of its caller: a call lays another dossier on the stack.
+#[inline(always)]
 pub fn read_attribute(d: Dossier, p: Path, name: u16, s: Subject) -> Option<Provisions>
     requires { DossierFits d × PathSound p }
     ensures { result ≡ decision_of (model.given (model.read_by (view_subject s)) (attribute_object (steps p) name (view_dossier d))) }

@@ -62,24 +62,8 @@ module _ (t : Nodes) (h : NodesSound t) (keys : List ℕ) (e : keys ≡ slots 64
   there_by_keys p s = ap₂ among (number_key p s) nodes_column ∙ key_among (steps p) (view_nodes t)
 
 -- ---- attributes
-module _ (t : Attributes) (h : AttributesSound t) (o : List (ℕ × ℕ)) (e : o ≡ slots 256 (0, 0) (objects_of (view_attributes t))) where
-  attributes_at : All AtPath (view_attributes t)
-  attributes_at = (is_fits attributes_of view_attributes view_attributes_lem (Fits things.before_attribute 256) t h).each
-
-  objects : t.count ≡ length (objects_of (view_attributes t))
-  objects = attributes_count t h ∙ sym (length-map (view_attributes t) object_of)
-
-  objects_column : take t.count o ≡ objects_of (view_attributes t)
-  objects_column = column_is (0, 0) 256 (objects_of (view_attributes t)) o t.count e objects
-
-  pub objects_long : t.count ≤ length o
-  objects_long = column_long (0, 0) 256 (objects_of (view_attributes t)) o t.count e objects
-
-  pub objects_ascend : Rises before_pair (take t.count o)
-  objects_ascend = subst (Rises before_pair) (sym objects_column) (let q = attributes_searched h in objects_rise q.keyed (view_attributes t) attributes_at q.ascend)
-
-  pub there_by_objects : (p : Path) → PathSound p → (n : ℕ) → pair_among (key_of p, n) (take t.count o) ≡ there (attribute_in (steps p) n (view_attributes t))
-  there_by_objects p s n = ap₂ (λ k l. pair_among (k, n) l) (number_key p s) objects_column ∙ object_among (steps p) n (view_attributes t)
+pub there_by_objects : (t : Attributes) (p : Path) → PathSound p → (n : ℕ) → pair_among (key_of p, n) (objects_of (view_attributes t)) ≡ there (attribute_in (steps p) n (view_attributes t))
+there_by_objects t p s n = ap (λ k. pair_among (k, n) (objects_of (view_attributes t))) (number_key p s) ∙ object_among (steps p) n (view_attributes t)
 
 -- ---- the first n rows of a table of attributes
 pub paths_taken : (t : Attributes) → AttributesSound t → PathsSound (take t.count t.rows)

@@ -4,29 +4,29 @@ ghost use Rattle.laws.specs.Slots.{pick};
 ghost use Rattle.path.specs.View.{steps, PathSound, key_of};
 ghost use Rattle.model.specs.Decide.{clash_any};
 ghost use Rattle.model.specs.Moves.{permissions_in};
-ghost use Rattle.tables.specs.View.{view_grant, view_permissions, PermissionsSound};
+ghost use Rattle.tables.specs.View.{view_attributes, AttributesSound, view_grant, view_permissions, PermissionsSound};
 ghost use Rattle.image.specs.Records.{Blames};
 ghost use Rattle.image.specs.Rows.{NoObjectAfter, AttributesDone, PermissionsUpto};
-ghost use Rattle.image.specs.Columns.{Rises, among, before_pair, pair_among};
+ghost use Rattle.image.specs.Columns.{Rises, among, pair_among, objects_of};
 
 use crate::BadRecord;
-use crate::columns::{is_among, is_object_among, keys_of, objects_of};
+use crate::columns::{is_among, keys_of};
 use crate::records::record_after;
 use grants::clash;
+use lookups::attribute_at;
 use parse::Record;
 use path::{Path, key};
 use tables::{Attributes, Nodes, Permission, Permissions, no_permissions};
 
-// Whether the object is there: the node for name 0, by its key, else the attribute.
-fn object_there(keys: &[u64], objects: &[(u64, u16)], p: Path, name: u16) -> bool
-    requires { Rises ltb keys.now × Rises before_pair objects.now }
-    ensures { result ≡ pick (eqb name 0) (among (key_of p) keys.now) (pair_among (key_of p, name) objects.now) }
+// Whether the object is there: the node for name 0, by its key, else the attribute, in the table that is lent.
+fn object_there(keys: &[u64], t: &Attributes, p: Path, name: u16) -> bool
+    requires { Rises ltb keys.now × AttributesSound t.now × PathSound p }
+    ensures { result ≡ pick (eqb name 0) (among (key_of p) keys.now) (pair_among (key_of p, name) (objects_of (view_attributes t.now))) }
 {
-    let k = key(p);
     if name == 0 {
-        return is_among(keys, k);
+        return is_among(keys, key(p));
     }
-    is_object_among(objects, k, name)
+    attribute_at(t, p, name).is_some()
 }
 
 // Whether r clashes with one of its object's permissions. They are the last rows, since records ascend: the walk back ends at the first row of another object.
@@ -54,19 +54,13 @@ pub fn read_permissions(
     ensures { MatchResult result (λ t. PermissionsUpto image.now n n nodes attributes t) (λ e. Blames image.now n e.number) }
 {
     let keys = keys_of(nodes);
-    let objects = objects_of(attributes);
     let mut t = no_permissions();
     for k in from..n {
         let Some(Record::Permission(r)) = record_after(image, k) else {
             return Err(BadRecord { number: k + 1 });
         };
         let c = t.count;
-        let on = object_there(
-            &keys[..nodes.count],
-            &objects[..attributes.count],
-            r.path,
-            r.name,
-        );
+        let on = object_there(&keys[..nodes.count], &attributes, r.path, r.name);
         let clashing = clashes(&t, r);
         if (128 <= c) | (!on | clashing) {
             return Err(BadRecord { number: k + 1 });

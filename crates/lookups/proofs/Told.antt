@@ -1,6 +1,6 @@
 -- What is told of the rows of one node or object. Assumes nothing.
 use mathlib.Core.Path.{◌≡◌, refl, sym, ap, ◌∙◌}
-use mathlib.Core.Bool.{Bool, true, false, ◌||◌}
+use mathlib.Core.Bool.{Bool, true, false, ◌&&◌, ◌||◌}
 use mathlib.Core.Option.{none, some}
 use mathlib.Core.List.{List, [], ◌∷◌, map}
 use Prim.Native.Nat.{ℕ, ◌+◌, ◌<◌}
@@ -18,21 +18,20 @@ use Rattle.laws.proofs.Fill.{held_next}
 use Rattle.laws.proofs.Search.{rows_from, rows_other}
 use Rattle.path.specs.Address.{Address, same}
 use Rattle.path.specs.View.{steps}
+use Rattle.model.specs.Things as things
 use Rattle.model.specs.Things.{Row}
-use Rattle.model.specs.Moves.{called, head, at, owner_in, same_permission, holds}
+use Rattle.model.specs.Moves.{called, head, at, owner_in, attribute_in, same_permission, holds}
 use Rattle.tables.specs.declared.Node.{Node}
-use Rattle.tables.specs.View.{Nodes}
-use Rattle.tables.specs.Places.{place_of}
+use Rattle.tables.specs.View.{Nodes, Attributes}
+use Rattle.tables.specs.Places.{place_of, attribute_place}
 use Rattle.tables.specs.declared.Attribute.{Attribute}
 use Rattle.tables.specs.declared.Permission.{Permission}
 use Rattle.tables.specs.declared.Grant.{Grant}
-use Rattle.tables.specs.declared.Found.{Found}
-use Rattle.tables.specs.View.{view_node, view_nodes, NodesSound, owner_of, view_attribute, view_grant, found_of}
-use Rattle.tables.proofs.Rows.{value_there, nodes_held}
-use Rattle.tables.proofs.Places.{nodes_searched, at_path}
-
-abbrev pub found_at : Attribute → Found
-found_at a = record { owner = a.owner; value = a.value }
+use Rattle.tables.specs.View.{view_node, view_nodes, NodesSound, owner_of, view_attribute, view_attributes, AttributesSound, view_grant, found_of}
+use Rattle.lookups.specs.View.{found_at}
+use Rattle.tables.proofs.Asked.{attribute_hit}
+use Rattle.tables.proofs.Rows.{value_there, nodes_held, attributes_held}
+use Rattle.tables.proofs.Places.{nodes_searched, at_path, attributes_searched, of_attribute_lem}
 
 pub find_called : (n : ℕ) (l : List Attribute) → option_map found_at (find (λ a. eqb a.name n) l) ≡ found_of (head (move (called n) (map (λ a. (view_attribute a).1) l)))
 find_called n [] = refl
@@ -69,3 +68,20 @@ owner_at t p i x h e c is {b} f = go b f ∙ sym (rows_from (nodes_searched h) p
     go : (b : Bool) → same (steps x.path) p ≡ b → then_some b x.owner ≡ asked (move (at p) (drop i (view_nodes t)))
     go true f = sym (ap (λ l. asked (move (at p) l)) next ∙ ap (λ b. asked (push (pick b (some x.owner) none) (move (at p) rest))) f)
     go false f = sym (rows_other (nodes_searched h) p (at_path p asked) i x (omega arith) c (ap (λ y. same (steps y.path) p) (sym is) ∙ f))
+
+-- ---- the row at the place of an object: what it holds, if it is that object's
+pub object_found : (t : Attributes) (p : Address) (n i : ℕ) (x : Attribute) → AttributesSound t → i ≡ attribute_place (p, n) (view_attributes t) → i < t.count → x ≡ get_or t.rows i x
+    → {b : Bool} → (eqb x.name n && same (steps x.path) p) ≡ b → then_some b (found_at x) ≡ found_of (attribute_in p n (view_attributes t))
+object_found t p n i x h e c is {b} f = go b f ∙ sym (rows_from (attributes_searched h) (p, n) (of_attribute_lem p n found_of) e)
+  where
+    rest : List (Row things.Attribute)
+    rest = drop (i + 1) (view_attributes t)
+
+    next : drop i (view_attributes t) ≡ view_attribute x ∷ rest
+    next = held_next _ _ _ _ _ _ (attributes_held t h) view_attribute i x c ∙ ap (λ y. view_attribute y ∷ rest) (sym is)
+
+    go : (b : Bool) → (eqb x.name n && same (steps x.path) p) ≡ b → then_some b (found_at x) ≡ found_of (attribute_in p n (drop i (view_attributes t)))
+    go true f =
+        sym (ap (λ l. found_of (attribute_in p n l)) next ∙ ap found_of (attribute_hit p n (view_attribute x) rest f) ∙ ap (λ v. Some (record { owner = x.owner; value = v })) (value_there x.value))
+    go false f =
+        sym (rows_other (attributes_searched h) (p, n) (of_attribute_lem p n found_of) i x (omega arith) c (ap (λ y. eqb y.name n && same (steps y.path) p) (sym is) ∙ f))

@@ -1,14 +1,14 @@
 // What is found in a table: its rows are in order, so that a lookup halves them.
 #![tactic(auto)]
 
-ghost use Rattle.std.specs.Prelude.{◌≡◌, ◌≤◌, length, map};
+ghost use Rattle.std.specs.Prelude.{◌≡◌, ◌≤◌, length, map, option_map};
 ghost use Rattle.laws.specs.Sorted.{move};
 ghost use Rattle.path.specs.View.{steps, PathSound};
 ghost use Rattle.model.specs.Moves.{owner_in, called, head, attribute_in, permissions_in, names_in, holds};
 ghost use Rattle.tables.specs.View.{view_nodes, NodesSound, view_attribute, view_attributes, AttributesSound, view_permissions, PermissionsSound, view_grant, owner_of, found_of, names_of};
-ghost use Rattle.lookups.specs.View.{held_in};
+ghost use Rattle.lookups.specs.View.{found_at, held_in};
 
-use path::{Path, is_same};
+use path::{Path, is_same, key};
 use tables::order::same_grant;
 use tables::place::{attributes_at, first_at, permissions_at};
 use tables::{Attribute, Attributes, Found, Grant, Names, Nodes, Permissions};
@@ -35,7 +35,21 @@ pub fn attribute_in(t: Attributes, p: Path, name: u16) -> Option<Found>
     requires { AttributesSound t × PathSound p }
     ensures { result ≡ found_of (attribute_in (steps p) name (view_attributes t)) }
 {
-    named(attributes_at(&t, p), name)
+    attribute_at(&t, p, name).map(|a| Found {
+        owner: a.owner,
+        value: a.value,
+    })
+}
+
+// The attribute of that name at p, in the table that is lent.
+pub fn attribute_at(t: &Attributes, p: Path, name: u16) -> Option<&Attribute>
+    requires { AttributesSound t.now × PathSound p }
+    ensures { option_map (λ a. found_at a.now) result ≡ found_of (attribute_in (steps p) name (view_attributes t.now)) }
+{
+    let o = (key(p), name);
+    let rows = &t.rows[..t.count];
+    let a = rows.get(rows.partition_point(|a| (key(a.path), a.name) < o))?;
+    (a.name == name && is_same(a.path, p)).then_some(a)
 }
 
 // Whether the object has exactly this permission.

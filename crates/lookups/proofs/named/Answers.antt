@@ -7,7 +7,8 @@ use Rattle.std.proofs.lemmas.Iterator.Search.{find_from_yields_List}
 use Rattle.tables.specs.declared.Attribute.{Attribute}
 use Rattle.std.specs.List.{find}
 use Rattle.std.specs.Option.{option_map}
-use Rattle.lookups.proofs.Told.{found_at, find_called}
+use Rattle.lookups.specs.View.{found_at}
+use Rattle.lookups.proofs.Told.{find_called}
 use Rattle.lookups.proofs.named.Goals as goal
 
 pub returns : goal.returns
