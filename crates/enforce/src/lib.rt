@@ -10,7 +10,7 @@ ghost use Rattle.refusals.specs.View.{CacheSound, view_cache};
 ghost use Rattle.image.specs.View.{loaded_of};
 ghost use Rattle.state.specs.declared.Reply.TheVariants.{Done};
 ghost use Rattle.state.specs.View.{view_request};
-ghost use Rattle.enforce.specs.Requests.{laden_of, pasting, weighed_of};
+ghost use Rattle.enforce.specs.Requests.{laden_of, pasting, verdict_of, weighed_of};
 
 use branch::load_branch;
 use deeds::classes::{Verdict, class_of};
@@ -48,6 +48,21 @@ fn cache_for(c: Clipboard, number: u8) -> Cache
     }
 }
 
+// The verdict on what was judged: the refusal, handed on; or the class of the request's number, with the messages to log.
+fn verdict_for(told: Result<u32, Refusal>, r: Request) -> Result<Verdict, Refusal>
+    ensures { result ≡ verdict_of r told }
+{
+    let messages = told?;
+    // a number that no request has was refused before
+    let class = class_of(r.number).ok_or(Refusal::BadOperand)?;
+    Ok(Verdict {
+        class,
+        dossier: r.dossier,
+        messages,
+        request: r,
+    })
+}
+
 // Refused; or what is to be done about it, and the messages to log.
 pub fn weighed(
     d: Dossier,
@@ -60,16 +75,7 @@ pub fn weighed(
     ensures { result ≡ weighed_of d c rows log r }
 {
     let k = cache_for(c, r.number);
-    let told = judged(d, k, rows, log.count, r);
-    let messages = told?;
-    // a number that no request has was refused above
-    let class = class_of(r.number).ok_or(Refusal::BadOperand)?;
-    Ok(Verdict {
-        class,
-        dossier: r.dossier,
-        messages,
-        request: r,
-    })
+    verdict_for(judged(d, k, rows, log.count, r), r)
 }
 
 // No message is to be logged.
