@@ -5,7 +5,7 @@ use lines::whys::Why;
 use std::io::Read;
 
 // Of the piece, the bytes from `at` up to `got` are left.
-#[derive(Drop)]
+#[derive(Clone, Copy)]
 pub struct Reader {
     piece: [u8; 65536],
     at: usize,
