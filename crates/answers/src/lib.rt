@@ -1,4 +1,5 @@
-// Answers as lines, with no output.
+// Answers as lines, with no output. Nothing here fails: a `Line` takes every text, and what finds no room in it is left out. So each
+// public function drops what `write!` answers, and its callers have none to look at.
 #![tactic(auto)]
 
 pub mod line;
@@ -67,8 +68,7 @@ fn put_reply(line: &mut Line, r: Reply, lent: &[u8]) -> fmt::Result {
     }
 }
 
-// The line of an answer; a save's bytes are those of the buffer that was lent to it.
-pub fn put_answer(line: &mut Line, a: Answer, lent: &[u8]) -> fmt::Result {
+fn put_outcome(line: &mut Line, a: Answer, lent: &[u8]) -> fmt::Result {
     match a {
         Ok(r) => put_reply(line, r, lent)?,
         Err(e) => put_refusal(line, e)?,
@@ -76,15 +76,22 @@ pub fn put_answer(line: &mut Line, a: Answer, lent: &[u8]) -> fmt::Result {
     line.write_str("\n")
 }
 
+// ---- whole lines
+
+// The line of an answer; a save's bytes are those of the buffer that was lent to it.
+pub fn put_answer(line: &mut Line, a: Answer, lent: &[u8]) {
+    let _ = put_outcome(line, a, lent);
+}
+
 // The line of an ask: the number that it answered, and the two sets that it wrote.
-pub fn put_asked(line: &mut Line, number: u32, messages: u32, agreements: u32) -> fmt::Result {
-    if number != 0 {
-        return writeln!(line, "refused {number}");
-    }
-    writeln!(line, "ok messages={messages} agreements={agreements}")
+pub fn put_asked(line: &mut Line, number: u32, messages: u32, agreements: u32) {
+    let _ = match number {
+        0 => writeln!(line, "ok messages={messages} agreements={agreements}"),
+        _ => writeln!(line, "refused {number}"),
+    };
 }
 
 // The line of a store: how many bytes the file has.
-pub fn put_stored(line: &mut Line, n: usize) -> fmt::Result {
-    writeln!(line, "ok bytes={n}")
+pub fn put_stored(line: &mut Line, n: usize) {
+    let _ = writeln!(line, "ok bytes={n}");
 }

@@ -4,7 +4,7 @@ ghost use Rattle.std.specs.Prelude.{◌≡◌, ◌≤◌, take};
 use std::fmt;
 use std::fmt::Write;
 
-// The longest answer is that of a log of 32768 bytes, in hex.
+// No answer is longer than the 32768 bytes that the program lends to a call, in hex, and a few words.
 const ROOM: usize = 70000;
 
 const DIGITS: [u8; 16] = *b"0123456789abcdef";

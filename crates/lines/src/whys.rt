@@ -1,7 +1,6 @@
 // Why a line is bad, in a few words.
 use crate::forms::Operand;
 use answers::line::Line;
-use std::fmt;
 use std::fmt::Write;
 
 #[derive(Clone, Copy)]
@@ -51,8 +50,8 @@ fn words_of(why: Why) -> &'static str {
     }
 }
 
-// The answer to a line that is no call.
-pub fn put_bad(line: &mut Line, number: u64, why: Why) -> fmt::Result {
+// The answer to a line that is no call. A `Line` takes every text: nothing fails, and what finds no room is left out.
+pub fn put_bad(line: &mut Line, number: u64, why: Why) {
     let words = words_of(why);
-    writeln!(line, "bad line {number}: {words}")
+    let _ = writeln!(line, "bad line {number}: {words}");
 }

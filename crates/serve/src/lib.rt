@@ -24,13 +24,13 @@ use std::rt::Files;
 
 fn say_answer(rt: &impl Print, a: Answer, lent: &[u8], out: &mut Line) {
     out.clear();
-    let _ = put_answer(out, a, lent);
+    put_answer(out, a, lent);
     say(rt, out);
 }
 
 pub fn say_bad(rt: &impl Print, number: u64, why: Why, out: &mut Line) {
     out.clear();
-    let _ = put_bad(out, number, why);
+    put_bad(out, number, why);
     say(rt, out);
 }
 
@@ -184,7 +184,7 @@ pub fn store(
     match stored(rt, c.word, lent.get(..size).unwrap_or_default()) {
         Ok(()) => {
             out.clear();
-            let _ = put_stored(out, size);
+            put_stored(out, size);
             say(rt, out);
         }
         Err(why) => say_bad(rt, number, why, out),
@@ -193,12 +193,8 @@ pub fn store(
 
 pub fn show_dossier(rt: &impl Print, s: &Session, n: u8, out: &mut Line) {
     match n {
-        1 => {
-            let _ = show(rt, &s.one, out);
-        }
-        2 => {
-            let _ = show(rt, &s.two, out);
-        }
+        1 => show(rt, &s.one, out),
+        2 => show(rt, &s.two, out),
         _ => say_answer(rt, Err(Refusal::BadOperand), b"", out),
     }
 }
@@ -235,7 +231,7 @@ pub fn ask_image(
             let n = room_in(c.room, lent);
             let d = decision(c, image.get(..len).unwrap_or_default(), &mut lent[..n]);
             out.clear();
-            let _ = put_asked(out, d, four_at(lent, 0), four_at(lent, 4));
+            put_asked(out, d, four_at(lent, 0), four_at(lent, 4));
             say(rt, out);
         }
         Err(why) => say_bad(rt, number, why, out),
