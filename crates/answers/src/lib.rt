@@ -85,9 +85,10 @@ pub fn put_answer(line: &mut Line, a: Answer, lent: &[u8]) {
 
 // The line of an ask: the number that it answered, and the two sets that it wrote.
 pub fn put_asked(line: &mut Line, number: u32, messages: u32, agreements: u32) {
-    let _ = match number {
-        0 => writeln!(line, "ok messages={messages} agreements={agreements}"),
-        _ => writeln!(line, "refused {number}"),
+    let _ = if number == 0 {
+        writeln!(line, "ok messages={messages} agreements={agreements}")
+    } else {
+        writeln!(line, "refused {number}")
     };
 }
 
