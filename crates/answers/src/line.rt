@@ -1,30 +1,24 @@
-// A line of text that is put together before it is written.
-ghost use Rattle.std.specs.Prelude.{◌≡◌, ◌≤◌, take};
+// A line of text that is put together in a lent buffer before it is written.
+ghost use Rattle.std.specs.Prelude.{◌≡◌, ◌≤◌, length, take};
 
 use std::fmt;
 use std::fmt::Write;
-
-// No answer is longer than the 32768 bytes that the program lends to a call, in hex, and a few words.
-const ROOM: usize = 70000;
 
 const DIGITS: [u8; 16] = *b"0123456789abcdef";
 
 // What finds no room is left out.
 #[derive(Drop)]
-pub struct Line {
-    pub bytes: [u8; ROOM],
-    pub len: usize,
-    ghost inside: { len ≤ 70000 },
+pub struct Line<'a> {
+    bytes: &'a mut [u8],
+    len: usize,
+    ghost inside: { len ≤ length bytes.now },
 }
 
-impl Line {
-    pub fn new() -> Line
+impl<'a> Line<'a> {
+    pub fn new(bytes: &'a mut [u8]) -> Line<'a>
         ensures { result.len ≡ 0 }
     {
-        Line {
-            bytes: [0; ROOM],
-            len: 0,
-        }
+        Line { bytes, len: 0 }
     }
 
     pub fn clear(&mut self)
@@ -34,13 +28,13 @@ impl Line {
     }
 
     pub fn as_bytes(&self) -> &[u8]
-        ensures { result.now ≡ take self.now.len self.now.bytes }
+        ensures { result.now ≡ take self.now.len self.now.bytes.now }
     {
         &self.bytes[..self.len]
     }
 
     fn push(&mut self, b: u8) {
-        if self.len < ROOM {
+        if self.len < self.bytes.len() {
             self.bytes[self.len] = b;
             self.len += 1;
         }
@@ -53,7 +47,7 @@ impl Line {
     }
 }
 
-impl Write for Line {
+impl Write for Line<'_> {
     fn write_str(&mut self, s: &str) -> fmt::Result {
         for b in s.as_bytes() {
             self.push(*b);

@@ -19,7 +19,8 @@ fn answer_all(rt: &(impl Files + Print), file: &mut impl Read) {
     let mut held = [0u8; 131072];
     let mut image = [0u8; 65536];
     let mut lent = [0u8; 32768];
-    let mut out = Line::new();
+    let mut room = [0u8; 70000];
+    let mut out = Line::new(&mut room);
     let mut reader = Reader::new();
     let mut s = fresh();
     for number in 1..u64::MAX {
