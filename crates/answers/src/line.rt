@@ -9,8 +9,8 @@ const DIGITS: [u8; 16] = *b"0123456789abcdef";
 // What finds no room is left out.
 #[derive(Drop)]
 pub struct Line<'a> {
-    bytes: &'a mut [u8],
-    len: usize,
+    pub bytes: &'a mut [u8],
+    pub len: usize,
     ghost inside: { len ≤ length bytes.now },
 }
 

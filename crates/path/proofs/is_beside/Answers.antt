@@ -1,6 +1,7 @@
 -- `path::is_beside` meets its contract: all but the last step are compared as numbers. Assumes nothing.
 use borrow.Author.Rules.{rules}
 use mathlib.Core.Path.{ap₂, ◌∙◌}
+use mathlib.Core.Logic.{inl, inr, ⊎_elim}
 use native.Mathlib.Omega.{arith}
 use lib.Dec.{eqb}
 use Rattle.path.specs.View.{steps}
@@ -10,7 +11,7 @@ use Rattle.path.proofs.is_beside.Goals as goal
 
 pub returns-else-k-n : goal.returns-else-k-n
 returns-else-k-n c =
-    let e = beside_off (steps c.args.q) (steps c.args.p) c.size-k.ensures.0 c.size-n.ensures.0 c.if-k-n.either in search rules
+    let e = beside_off (steps c.args.q) (steps c.args.p) c.size-k.ensures.0 c.size-n.ensures.0 (⊎_elim (λ w. inl (w.0, omega (arith, w.1))) inr c.if-k-n.either) in search rules
 
 pub returns-then-k-n : goal.returns-then-k-n
 returns-then-k-n c =
