@@ -19,14 +19,14 @@ use Rattle.model.specs.Moves.{owner_in, attribute_in}
 use Rattle.model.specs.Image.{there}
 use Rattle.tables.specs.View.{Nodes}
 use Rattle.tables.specs.View.{Attributes}
-use Rattle.tables.specs.View.{AtPath, Fits, view_nodes, nodes_of, NodesSound, view_attributes, attributes_of, AttributesSound, no_attribute}
-use Rattle.tables.proofs.Rows.{view_nodes_lem, view_attributes_lem, attribute_path, attributes_held}
-use Rattle.tables.proofs.Tables.{nodes_count, attributes_count}
-use Rattle.tables.proofs.Places.{nodes_searched, attributes_searched}
-use Rattle.image.specs.Columns.{Rises, NoneAbove, among, before_pair, pair_among, keys_of, objects_of, node_fits_among}
+use Rattle.tables.specs.View.{AtPath, Fits, view_nodes, nodes_of, NodesSound, view_attributes, AttributesSound, no_attribute}
+use Rattle.tables.proofs.Rows.{view_nodes_lem, attribute_path, attributes_held}
+use Rattle.tables.proofs.Tables.{nodes_count}
+use Rattle.tables.proofs.Places.{nodes_searched}
+use Rattle.image.specs.Columns.{Rises, NoneAbove, among, pair_among, keys_of, objects_of, node_fits_among}
 use Rattle.tables.specs.declared.Attribute.{Attribute}
 use Rattle.image.specs.Rows.{NoneAfter, node_fits_in, PathsSound, from_end, attribute_tests}
-use Rattle.image.proofs.Keys.{number_key, key_of_row, keys_none, keys_rise, object_of, objects_rise, key_among, object_among, node_fits_among_lem}
+use Rattle.image.proofs.Keys.{number_key, key_of_row, keys_none, keys_rise, key_among, object_among, node_fits_among_lem}
 
 -- any column that fills the first of n slots
 column_is : {A : Type 0} (d : A) (n : ℕ) (l : List A) (keys : List A) (c : ℕ) → keys ≡ slots n d l → c ≡ length l → take c keys ≡ l

@@ -9,7 +9,7 @@ ghost use Rattle.image.specs.View.{loaded_of};
 use attributes::read_attributes;
 use nodes::read_nodes;
 use permissions::read_permissions;
-use tables::Dossier;
+use tables::{Dossier, no_permissions};
 
 pub mod attributes;
 pub mod columns;
@@ -42,7 +42,8 @@ pub fn load(image: &[u8]) -> Result<Dossier, BadRecord>
     let nodes = a.table;
     let b = read_attributes(image, a.next, n, nodes)?;
     let attributes = b.table;
-    let permissions = read_permissions(image, b.next, n, nodes, attributes)?;
+    let mut permissions = no_permissions();
+    read_permissions(image, b.next, n, nodes, attributes, &mut permissions)?;
     Ok(Dossier {
         nodes,
         attributes,

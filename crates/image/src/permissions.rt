@@ -43,30 +43,32 @@ fn clashes(t: &Permissions, r: Permission) -> bool
     own.any(|a| clash(r.grant, a.grant))
 }
 
+// They are put into a table that is lent: a `Result` with the table lays one more of them on the stack of `load`, and so of `dossier_ask`.
 pub fn read_permissions(
     image: &[u8],
     from: usize,
     n: usize,
     nodes: Nodes,
     attributes: Attributes,
-) -> Result<Permissions, BadRecord>
+    t: &mut Permissions,
+) -> Result<(), BadRecord>
     requires { (length image.now ≡ n * 40) × AttributesDone image.now n from nodes attributes }
-    ensures { MatchResult result (λ t. PermissionsUpto image.now n n nodes attributes t) (λ e. Blames image.now n e.number) }
+    ensures { MatchResult result (λ _. PermissionsUpto image.now n n nodes attributes t.new) (λ e. Blames image.now n e.number) }
 {
     let keys = keys_of(nodes);
-    let mut t = no_permissions();
+    *t = no_permissions();
     for k in from..n {
         let Some(Record::Permission(r)) = record_after(image, k) else {
             return Err(BadRecord { number: k + 1 });
         };
         let c = t.count;
         let on = object_there(&keys[..nodes.count], &attributes, r.path, r.name);
-        let clashing = clashes(&t, r);
+        let clashing = clashes(t, r);
         if (128 <= c) | (!on | clashing) {
             return Err(BadRecord { number: k + 1 });
         }
         t.rows[c] = r;
         t.count = c + 1;
     }
-    Ok(t)
+    Ok(())
 }

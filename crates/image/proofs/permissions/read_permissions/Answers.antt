@@ -13,7 +13,7 @@ use Rattle.image.proofs.permissions.read_permissions.Goals as goal
 use Rattle.image.proofs.permissions.read_permissions.Goals.{After-clashes-clashing}
 
 pub loop-k-init : goal.loop-k-init
-loop-k-init c = permissions_begin c.requires.1 c.no_permissions-t.ensures
+loop-k-init c = permissions_begin c.requires.1 c.no_permissions.ensures
 
 pub slice_bounds-keys-end : goal.slice_bounds-keys-end
 slice_bounds-keys-end c = keys_long c.args.nodes c.loop-k.invariant.on c.keys_of-keys.result c.keys_of-keys.ensures
