@@ -19,14 +19,14 @@ use Rattle.model.specs.Moves.{owner_in, attribute_in}
 use Rattle.model.specs.Image.{there}
 use Rattle.tables.specs.View.{Nodes}
 use Rattle.tables.specs.View.{Attributes}
-use Rattle.tables.specs.View.{AtPath, Fits, view_nodes, nodes_of, NodesSound, view_attributes, AttributesSound, no_attribute}
-use Rattle.tables.proofs.Rows.{view_nodes_lem, attribute_path, attributes_held}
-use Rattle.tables.proofs.Tables.{nodes_count}
-use Rattle.tables.proofs.Places.{nodes_searched}
-use Rattle.image.specs.Columns.{Rises, NoneAbove, among, pair_among, keys_of, objects_of, node_fits_among}
+use Rattle.tables.specs.View.{AtPath, Fits, view_nodes, nodes_of, NodesSound, view_attributes, attributes_of, AttributesSound, no_attribute}
+use Rattle.tables.proofs.Rows.{view_nodes_lem, view_attributes_lem, attribute_path, attributes_held}
+use Rattle.tables.proofs.Tables.{nodes_count, attributes_count}
+use Rattle.tables.proofs.Places.{nodes_searched, attributes_searched}
+use Rattle.image.specs.Columns.{Rises, NoneAbove, among, before_pair, pair_among, keys_of, objects_of, node_fits_among}
 use Rattle.tables.specs.declared.Attribute.{Attribute}
 use Rattle.image.specs.Rows.{NoneAfter, node_fits_in, PathsSound, from_end, attribute_tests}
-use Rattle.image.proofs.Keys.{number_key, key_of_row, keys_none, keys_rise, key_among, object_among, node_fits_among_lem}
+use Rattle.image.proofs.Keys.{number_key, key_of_row, keys_none, keys_rise, object_of, objects_rise, key_among, object_among, node_fits_among_lem}
 
 -- any column that fills the first of n slots
 column_is : {A : Type 0} (d : A) (n : ℕ) (l : List A) (keys : List A) (c : ℕ) → keys ≡ slots n d l → c ≡ length l → take c keys ≡ l
@@ -62,8 +62,27 @@ module _ (t : Nodes) (h : NodesSound t) (keys : List ℕ) (e : keys ≡ slots 64
   there_by_keys p s = ap₂ among (number_key p s) nodes_column ∙ key_among (steps p) (view_nodes t)
 
 -- ---- attributes
-pub there_by_objects : (t : Attributes) (p : Path) → PathSound p → (n : ℕ) → pair_among (key_of p, n) (objects_of (view_attributes t)) ≡ there (attribute_in (steps p) n (view_attributes t))
-there_by_objects t p s n = ap (λ k. pair_among (k, n) (objects_of (view_attributes t))) (number_key p s) ∙ object_among (steps p) n (view_attributes t)
+pub there_by_rows : (t : Attributes) (p : Path) → PathSound p → (n : ℕ) → pair_among (key_of p, n) (objects_of (view_attributes t)) ≡ there (attribute_in (steps p) n (view_attributes t))
+there_by_rows t p s n = ap (λ k. pair_among (k, n) (objects_of (view_attributes t))) (number_key p s) ∙ object_among (steps p) n (view_attributes t)
+
+module _ (t : Attributes) (h : AttributesSound t) (o : List (ℕ × ℕ)) (e : o ≡ slots 256 (0, 0) (objects_of (view_attributes t))) where
+  attributes_at : All AtPath (view_attributes t)
+  attributes_at = (is_fits attributes_of view_attributes view_attributes_lem (Fits things.before_attribute 256) t h).each
+
+  objects : t.count ≡ length (objects_of (view_attributes t))
+  objects = attributes_count t h ∙ sym (length-map (view_attributes t) object_of)
+
+  objects_column : take t.count o ≡ objects_of (view_attributes t)
+  objects_column = column_is (0, 0) 256 (objects_of (view_attributes t)) o t.count e objects
+
+  pub objects_long : t.count ≤ length o
+  objects_long = column_long (0, 0) 256 (objects_of (view_attributes t)) o t.count e objects
+
+  pub objects_ascend : Rises before_pair (take t.count o)
+  objects_ascend = subst (Rises before_pair) (sym objects_column) (let q = attributes_searched h in objects_rise q.keyed (view_attributes t) attributes_at q.ascend)
+
+  pub there_by_objects : (p : Path) → PathSound p → (n : ℕ) → pair_among (key_of p, n) (take t.count o) ≡ there (attribute_in (steps p) n (view_attributes t))
+  there_by_objects p s n = ap (pair_among (key_of p, n)) objects_column ∙ there_by_rows t p s n
 
 -- ---- the first n rows of a table of attributes
 pub paths_taken : (t : Attributes) → AttributesSound t → PathsSound (take t.count t.rows)

@@ -5,6 +5,8 @@ mod damage;
 mod files;
 mod saved;
 mod show;
+#[cfg(test)]
+mod tests;
 mod whole;
 
 fn main(rt: HostRuntime) {

@@ -13,7 +13,7 @@ use Rattle.tables.specs.declared.Attribute.{Attribute}
 use Rattle.tables.specs.View.{view_attributes, found_of}
 use Rattle.lookups.specs.View.{found_at}
 use Rattle.image.specs.Columns.{among, pair_among, objects_of}
-use Rattle.image.proofs.Lent.{there_by_objects}
+use Rattle.image.proofs.Lent.{there_by_rows}
 use Rattle.image.proofs.permissions.object_there.Goals as goal
 
 -- a row is lent just where there is an attribute
@@ -28,5 +28,5 @@ returns c =
     let p = c.args.p in
     let n = c.args.name in
     let l = view_attributes c.args.t.now in
-    c.is_some.ensures ∙ lent c.attribute_at.result (attribute_in (steps p) n l) c.attribute_at.ensures ∙ sym (there_by_objects c.args.t.now p c.requires.2 n)
+    c.is_some.ensures ∙ lent c.attribute_at.result (attribute_in (steps p) n l) c.attribute_at.ensures ∙ sym (there_by_rows c.args.t.now p c.requires.2 n)
     ∙ sym (ap (λ b. pick b (among (key_of p) c.args.keys.now) (pair_among (key_of p, n) (objects_of l))) (ne_eqb n 0 c.if-name-eq0.false))

@@ -5,7 +5,7 @@ use mathlib.Core.Bool.{◌||◌, not}
 use lib.Dec.{eqb, leb}
 use Rattle.laws.specs.Slots.{pick}
 use lib.Seq.{length-take-le}
-use Rattle.image.proofs.Lent.{keys_long, keys_ascend, there_by_keys, there_by_objects}
+use Rattle.image.proofs.Lent.{keys_long, keys_ascend, there_by_keys, there_by_rows}
 use Rattle.parse.specs.declared.Record.TheVariants as kinds
 use Rattle.image.proofs.Stands.{row_is}
 use Rattle.image.proofs.Phases.{blamed, other_breaks, permissions_begin, permission_answer, permission_path_sound, permission_none_after, permission_breaks, permissions_more}
@@ -47,7 +47,7 @@ answer c =
     let p = permission_path_sound u x (row_is kinds.Permission c.in-Some-Permission.is c.in-Some-Permission.field-0-is c.record_after.ensures) in
     let on = c.object_there-on.ensures
     ∙ ap₂ (λ a b. pick (eqb x.name 0) a b) (there_by_keys c.args.nodes u.on c.keys_of-keys.result c.keys_of-keys.ensures x.path p)
-    (there_by_objects c.args.attributes x.path p x.name) in
+    (there_by_rows c.args.attributes x.path p x.name) in
     sym (λ i. leb 128 c.loop-k.t.count || (not (on i) || c.clashes-clashing.ensures i))
 
 pub returns-in_default : goal.returns-in_default
